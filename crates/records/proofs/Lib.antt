@@ -1,0 +1,6 @@
+pub mod Zeros
+pub mod Bytes
+pub mod Orders
+pub mod Places
+pub mod Joins
+pub mod Ext

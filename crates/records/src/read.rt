@@ -1,0 +1,80 @@
+//! The parts of a record.
+
+ghost use mathlib.Core.Path.{_≡_};
+ghost use Rattle.records.specs.States.{bytesOf};
+ghost use Rattle.records.specs.Meaning.{tombstoneOf};
+use crate::cell::Cell;
+use crate::deletion::Deletion;
+use crate::state::State;
+use crate::tombstone::Tombstone;
+use crate::value::Value;
+
+impl Value {
+    pub fn bytes(&self) -> &[u8]
+        ensures { λ r. ⌜ now r ≡ bytesOf (now (self .entry)) ⌝ }
+    {
+        &self.bytes[..self.len as usize]
+    }
+}
+
+impl Deletion {
+    pub fn section(&self) -> u16
+        ensures { λ r. ⌜ r ≡ now (self .entry) .section ⌝ }
+    {
+        self.section
+    }
+
+    pub fn first(&self) -> u32
+        ensures { λ r. ⌜ r ≡ now (self .entry) .first ⌝ }
+    {
+        self.first
+    }
+
+    pub fn last(&self) -> u32
+        ensures { λ r. ⌜ r ≡ now (self .entry) .last ⌝ }
+    {
+        self.last
+    }
+
+    /// What it leaves on each of its plots.
+    pub fn tombstone(&self) -> Tombstone
+        ensures { λ r. ⌜ r ≡ tombstoneOf (now (self .entry)) ⌝ }
+    {
+        Tombstone {
+            stamp: self.stamp,
+            day: self.day,
+        }
+    }
+}
+
+impl Cell {
+    pub fn section(&self) -> u16
+        ensures { λ r. ⌜ r ≡ now (self .entry) .section ⌝ }
+    {
+        self.section
+    }
+
+    pub fn plot(&self) -> u32
+        ensures { λ r. ⌜ r ≡ now (self .entry) .plot ⌝ }
+    {
+        self.plot
+    }
+
+    pub fn field(&self) -> u8
+        ensures { λ r. ⌜ r ≡ now (self .entry) .field ⌝ }
+    {
+        self.field
+    }
+
+    pub fn stamp(&self) -> u64
+        ensures { λ r. ⌜ r ≡ now (self .entry) .stamp ⌝ }
+    {
+        self.stamp
+    }
+
+    pub fn state(&self) -> State
+        ensures { λ r. ⌜ r ≡ now (self .entry) .state ⌝ }
+    {
+        self.state
+    }
+}

@@ -1,0 +1,13 @@
+use crate::cell::Cell;
+use crate::cell::CellDebug as _;
+use crate::cell::CellPartialEq as _;
+use crate::deletion::Deletion;
+use crate::deletion::DeletionDebug;
+use crate::deletion::DeletionPartialEq;
+
+/// One change to the register, as a station wrote it.
+#[derive(Clone, Copy, PartialEq, Debug)]
+pub enum Record {
+    Deletion(Deletion),
+    Cell(Cell),
+}
