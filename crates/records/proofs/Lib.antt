@@ -4,3 +4,4 @@ pub mod Orders
 pub mod Places
 pub mod Joins
 pub mod Ext
+pub mod Says

@@ -1,6 +1,9 @@
 //! The parts of a record.
 
 ghost use mathlib.Core.Path.{_≡_};
+ghost use mathlib.Core.List.{_++_};
+ghost use Prim.Native.Nat.{_-_};
+ghost use lib.ListN.{length, replicate};
 ghost use Rattle.records.specs.States.{bytesOf};
 ghost use Rattle.records.specs.Meaning.{tombstoneOf};
 use crate::cell::Cell;
@@ -14,6 +17,13 @@ impl Value {
         ensures { λ r. ⌜ now r ≡ bytesOf (now (self .entry)) ⌝ }
     {
         &self.bytes[..self.len as usize]
+    }
+
+    /// Its bytes with zeros behind them.
+    pub fn padded(&self) -> [u8; 23]
+        ensures { λ r. ⌜ r ≡ bytesOf (now (self .entry)) ++ replicate (23 - length (bytesOf (now (self .entry)))) 0 ⌝ }
+    {
+        self.bytes
     }
 }
 
