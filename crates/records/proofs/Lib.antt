@@ -5,3 +5,4 @@ pub mod Places
 pub mod Joins
 pub mod Ext
 pub mod Says
+pub mod Passing

@@ -6,3 +6,4 @@ pub mod Ranges
 pub mod Meaning
 pub mod Laws
 pub mod Examples
+pub mod Listed

@@ -5,7 +5,9 @@ ghost use mathlib.Core.List.{_++_};
 ghost use Prim.Native.Nat.{_-_};
 ghost use lib.ListN.{length, replicate};
 ghost use Rattle.records.specs.States.{bytesOf};
-ghost use Rattle.records.specs.Meaning.{tombstoneOf};
+ghost use Rattle.records.specs.Content.{isLive};
+ghost use Rattle.records.specs.Meaning.{tombstoneOf, versionOf};
+ghost use Rattle.std.specs.declared.option.Option.the-variants.{Some};
 use crate::cell::Cell;
 use crate::deletion::Deletion;
 use crate::state::State;
@@ -86,5 +88,15 @@ impl Cell {
         ensures { λ r. ⌜ r ≡ now (self .entry) .state ⌝ }
     {
         self.state
+    }
+
+    /// Whether it holds a value.
+    pub fn is_live(&self) -> bool
+        ensures { λ r. ⌜ r ≡ isLive (Some (versionOf (now (self .entry)))) ⌝ }
+    {
+        match self.state {
+            State::Live(_) => true,
+            State::Cleared(_) => false,
+        }
     }
 }
