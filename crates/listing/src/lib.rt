@@ -5,9 +5,13 @@ mod fold;
 mod read;
 mod section;
 mod sheet;
+mod text;
 
 pub use count::count_section;
 pub use fold::cell_at;
 pub use fold::cover_at;
 pub use section::SectionCount;
 pub use sheet::Sheet;
+pub use text::Line;
+pub use text::LineDisplay;
+pub use text::SectionCountDisplay;
