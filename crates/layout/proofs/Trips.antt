@@ -31,7 +31,7 @@ use Rattle.layout.specs.declared.row.Row.{Row}
 use Rattle.layout.specs.declared.fault.RecordFault.{RecordFault}
 use Rattle.layout.specs.declared.fault.RecordFault.the-variants.{Length, Malformed}
 use Rattle.layout.specs.Numbers.{numberAt, laid}
-use Rattle.layout.specs.Layout.{rowAt, widths, numbers, rowBytes, rules, firstBroken, faultOf, mutationIn, unlessFault, decoded, rowOf, encoded, outcome, rewritten}
+use Rattle.layout.specs.Layout.{rowAt, widths, numbers, rowBytes, rules, firstBroken, faultOf, mutationIn, unlessFault, decoded, rowOf, encoded, outcome}
 use Rattle.layout.proofs.Fields.{readAt, readAt-is, Fitting, read-laid-more, laid-read-more, length-laid}
 use Rattle.layout.proofs.Lawful.{AllHold, all-hold, none-broken, no-value, one-plot, no-field, deletion-in, left}
 
@@ -278,16 +278,12 @@ encoded-decoded bs u e =
     let b : firstBroken (rules (rowAt bs)) ≡ None = sym (rw t) ∙ e in
     ap rowBytes (rule-back (rowAt bs) (simp length-drop (omega arith)) b) ∙ bytes-back bs l u
 
--- the fault is the same whatever there is without one
+-- what there is without a fault
 faultless : {A : Type 0} (f : Option RecordFault) (x y : A) → Ok y ≡ unlessFault f x → (f ≡ None) × (y ≡ x)
 faultless None x y e = (refl, cc)
 faultless (Some g) x y e = absurd (let z : _≡_ {A = ℕ} 0 1 = cc in omega arith)
 
-pub faulty : {A B : Type 0} (f : Option RecordFault) (x : A) (y : B) (g : RecordFault) → Err g ≡ unlessFault f x → Err g ≡ unlessFault f y
-faulty None x y g e = absurd (let z : _≡_ {A = ℕ} 0 1 = cc in omega arith)
-faulty (Some f) x y g e = let h : g ≡ f = cc in ap Err h
-
-pub rewritten-whole : (bs b : List ℕ) (r : Record) → Under 256 bs → Ok (says r) ≡ decoded bs → b ≡ encoded (says r) → Ok b ≡ rewritten bs
-rewritten-whole bs b r u e w =
+pub encoded-again : (bs b : List ℕ) (r : Record) → Under 256 bs → Ok (says r) ≡ decoded bs → b ≡ encoded (says r) → b ≡ bs
+encoded-again bs b r u e w =
     let h = faultless (faultOf bs) (mutationIn (rowAt bs)) (says r) e in
-    ap Ok (w ∙ ap encoded (h .1) ∙ encoded-decoded bs u (h .0)) ∙ ap (λ f. unlessFault f bs) (sym (h .0))
+    w ∙ ap encoded (h .1) ∙ encoded-decoded bs u (h .0)

@@ -134,7 +134,3 @@ encoded m = rowBytes (rowOf m)
 abbrev pub outcome : Result Record RecordFault → Result Mutation RecordFault
 outcome (Ok r) = Ok (says r)
 outcome (Err f) = Err f
-
--- bytes decoded and encoded again: the same, or their fault
-abbrev pub rewritten : List ℕ → Result (List ℕ) RecordFault
-rewritten bs = unlessFault (faultOf bs) bs

@@ -1,13 +1,16 @@
 //! Bytes to a record and back.
 
 ghost use mathlib.Core.Path.{_≡_};
-ghost use mathlib.Core.Bool.{true};
-ghost use Prim.Native.Nat.{ℕ, _≤_};
-ghost use lib.ListN.{length, take};
+ghost use mathlib.Core.List.{_++_};
+ghost use Prim.Native.Nat.{ℕ, _-_, _≤_};
+ghost use lib.ListN.{length, replicate};
+ghost use Rattle.std.specs.Results.{errPart};
+ghost use Rattle.std.specs.Vec.{made};
 ghost use Rattle.std.specs.declared.option.Option.the-variants.{None};
 ghost use Rattle.std.specs.declared.result.Result.the-variants.{Ok, Err};
 ghost use Rattle.records.specs.Meaning.{says, deletionSays, cellSays};
-ghost use Rattle.layout.specs.Layout.{rowAt, rowBytes, rowOf, rules, firstBroken, mutationIn, decoded, encoded, outcome, rewritten};
+ghost use Rattle.records.specs.States.{bytesOf};
+ghost use Rattle.layout.specs.Layout.{rowAt, rowBytes, rowOf, rules, firstBroken, mutationIn, faultOf, decoded, encoded, outcome};
 use crate::bytes::get_value;
 use crate::bytes::get16;
 use crate::bytes::get32;
@@ -102,6 +105,13 @@ impl Row {
     }
 }
 
+// A value's bytes with zeros behind them.
+fn padded(value: &Value) -> [u8; 23]
+    ensures { λ r. ⌜ r ≡ bytesOf (now (value .entry)) ++ replicate (23 - length (bytesOf (now (value .entry)))) 0 ⌝ }
+{
+    value.padded()
+}
+
 impl Row {
     // The record of a row that breaks no rule.
     fn record(&self) -> Record
@@ -148,7 +158,7 @@ impl Row {
     {
         let plot = c.plot();
         let (kind, day, len, value) = match c.state() {
-            State::Live(v) => (2, 0, v.bytes().len() as u8, v.padded()),
+            State::Live(v) => (2, 0, v.bytes().len() as u8, padded(&v)),
             State::Cleared(day) => (3, day, 0, [0; 23]),
         };
         Row {
@@ -167,7 +177,8 @@ impl Row {
 
 /// The record that bytes write, or their fault.
 pub fn decode(bytes: &[u8]) -> Result<Record, RecordFault>
-    ensures { λ r. ⌜ outcome r ≡ decoded (now (bytes .entry)) ⌝ }
+    ensures outcome { λ r. ⌜ outcome r ≡ decoded (now (bytes .entry)) ⌝ }
+    ensures fault { λ r. ⌜ errPart r ≡ faultOf (now (bytes .entry)) ⌝ }
 {
     if bytes.len() != 48 {
         return Err(RecordFault::Length);
@@ -184,18 +195,35 @@ pub fn encode(record: &Record) -> [u8; 48]
     Row::of(record).bytes()
 }
 
+// The bytes of a record, decoded: that record.
+fn decode_of(record: &Record, bytes: &[u8]) -> Result<Record, RecordFault>
+    requires { ⌜ now bytes ≡ encoded (says (now «record»)) ⌝ }
+    ensures { λ r. ⌜ r ≡ Ok (now («record» .entry)) ⌝ }
+{
+    decode(bytes)
+}
+
+// The record that bytes write, encoded: those bytes.
+fn encode_of(bytes: &[u8], record: &Record) -> [u8; 48]
+    requires { ⌜ Ok (says (now «record»)) ≡ decoded (now bytes) ⌝ }
+    ensures { λ r. ⌜ r ≡ now (bytes .entry) ⌝ }
+{
+    encode(record)
+}
+
 /// Encodes a record and decodes it again: it is the same.
 pub fn decode_encoded(record: &Record) -> Result<Record, RecordFault>
     ensures { λ r. ⌜ r ≡ Ok (now («record» .entry)) ⌝ }
 {
     let bytes = encode(record);
-    decode(&bytes)
+    decode_of(record, &bytes)
 }
 
 /// Decodes bytes and encodes the record again: the bytes are the same.
 pub fn encode_decoded(bytes: &[u8]) -> Result<[u8; 48], RecordFault>
-    ensures { λ r. ⌜ r ≡ rewritten (now (bytes .entry)) ⌝ }
+    ensures same { λ r. ⌜ made r (λ b. b ≡ now (bytes .entry)) ⌝ }
+    ensures fault { λ r. ⌜ errPart r ≡ faultOf (now (bytes .entry)) ⌝ }
 {
     let record = decode(bytes)?;
-    Ok(encode(&record))
+    Ok(encode_of(bytes, &record))
 }

@@ -8,11 +8,16 @@ use Rattle.std.specs.declared.option.Option.{Option}
 use Rattle.std.specs.declared.option.Option.the-variants.{None, Some}
 use Rattle.records.specs.Content.{Content, Mutation, contentOf}
 use Rattle.records.specs.Listed.{passing, listed, free}
+use Rattle.listing.specs.declared.section.PlotCount.{PlotCount}
 use Rattle.listing.specs.declared.section.SectionCount.{SectionCount}
 use Rattle.listing.specs.Fold.{inSection}
 
+-- how many plots of a section are listed, and how many free
+abbrev pub plotsOf : Content → ℕ → PlotCount
+plotsOf c s = record { listed = length (passing (listed c s) 999999); free = length (passing (free c s) 999999) }
+
 abbrev pub countOf : Content → ℕ → SectionCount
-countOf c s = record { section = s; listed = length (passing (listed c s) 999999); free = length (passing (free c s) 999999) }
+countOf c s = record { section = s; plots = plotsOf c s }
 
 -- the counts of each section with a record, ascending
 abbrev pub countsOf : List Mutation → List SectionCount

@@ -1,7 +1,7 @@
 //! The plots of a section, counted.
 
 ghost use mathlib.Core.Path.{_≡_};
-ghost use mathlib.Core.List.{map};
+ghost use mathlib.Core.List.{[], map};
 ghost use Prim.Native.Nat.{ℕ, _≤_};
 ghost use Rattle.std.specs.Of.Vec.{vec-items};
 ghost use Rattle.std.specs.Vec.{made};
@@ -9,9 +9,10 @@ ghost use Rattle.records.specs.Content.{isLive};
 ghost use Rattle.records.specs.Meaning.{says};
 ghost use Rattle.records.specs.Listed.{listed as isListed, free as isFree};
 ghost use Rattle.listing.specs.Fold.{contentIn};
-ghost use Rattle.listing.specs.Count.{countOf, countsOf, NextPlot, NextSection};
+ghost use Rattle.listing.specs.Count.{plotsOf, countOf, countsOf, NextPlot, NextSection};
 use crate::fold::cell_at;
 use crate::fold::next_key;
+use crate::section::PlotCount;
 use crate::section::SectionCount;
 use records::Record;
 use records::range::LAST_FIELD;
@@ -59,9 +60,9 @@ fn next_plot(records: &[Record], section: u16, after: u32) -> Option<u32>
     Some((key - start) as u32)
 }
 
-/// The listed and the free plots of a section.
-pub fn count_section(records: &[Record], section: u16) -> SectionCount
-    ensures { λ r. ⌜ r ≡ countOf (contentIn (now (records .entry))) section ⌝ }
+// The listed and the free plots of a section.
+fn count_plots(records: &[Record], section: u16) -> PlotCount
+    ensures { λ r. ⌜ r ≡ plotsOf (contentIn (now (records .entry))) section ⌝ }
 {
     let mut listed = 0;
     let mut free = 0;
@@ -71,11 +72,15 @@ pub fn count_section(records: &[Record], section: u16) -> SectionCount
         free += u32::from(free_at(records, section, next));
         plot = next;
     }
-    SectionCount {
-        section,
-        listed,
-        free,
-    }
+    PlotCount { listed, free }
+}
+
+/// How many plots of a section are listed, and how many of those are free.
+pub fn count_section(records: &[Record], section: u16) -> SectionCount
+    ensures { λ r. ⌜ r ≡ countOf (contentIn (now (records .entry))) section ⌝ }
+{
+    let plots = count_plots(records, section);
+    SectionCount { section, plots }
 }
 
 // The first section above another with a record.
@@ -89,15 +94,24 @@ fn next_section(records: &[Record], after: u16) -> Option<u16>
     Some((key / 1_048_576) as u16)
 }
 
-/// The listed and the free plots of each section with a record, by section.
-pub fn count_sections(heap: Global, records: &[Record]) -> Result<Vec<SectionCount>, AllocError>
-    ensures { λ r. ⌜ made r (λ v. vec-items v ≡ countsOf (map says (now (records .entry)))) ⌝ }
+// Adds the counts of each section with a record, by section.
+fn add_counts(counts: &mut Vec<SectionCount>, records: &[Record]) -> Result<(), AllocError>
+    requires { ⌜ vec-items (now counts) ≡ [] ⌝ }
+    ensures { λ r. ⌜ made r (λ _. vec-items (now (counts .exit)) ≡ countsOf (map says (now (records .entry)))) ⌝ }
 {
-    let mut counts = Vec::new(heap);
     let mut section = 0;
     while let Some(next) = next_section(records, section) {
         counts.push(count_section(records, next))?;
         section = next;
     }
+    Ok(())
+}
+
+/// The counts of each section with a record, by section.
+pub fn count_sections(heap: Global, records: &[Record]) -> Result<Vec<SectionCount>, AllocError>
+    ensures { λ r. ⌜ made r (λ v. vec-items v ≡ countsOf (map says (now (records .entry)))) ⌝ }
+{
+    let mut counts = Vec::new(heap);
+    add_counts(&mut counts, records)?;
     Ok(counts)
 }

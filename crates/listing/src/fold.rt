@@ -60,13 +60,26 @@ fn written_at(records: &[Record], section: u16, plot: u32, field: u8) -> Option<
     cell
 }
 
-/// The cell at a place: the greatest written there, or none where the plot's cover covers it.
+// The greatest cell written at a place, or none where its plot's cover covers it.
+fn cell_under(
+    cover: Option<Tombstone>,
+    records: &[Record],
+    section: u16,
+    plot: u32,
+    field: u8,
+) -> Option<Cell>
+    requires { ⌜ cover ≡ contentIn (now records) .cover section plot ⌝ }
+    ensures { λ r. ⌜ mapped versionOf r ≡ contentIn (now (records .entry)) .cell section plot field ⌝ }
+{
+    uncovered_cell(cover, written_at(records, section, plot, field))
+}
+
+/// The cell at a place.
 pub fn cell_at(records: &[Record], section: u16, plot: u32, field: u8) -> Option<Cell>
     ensures { λ r. ⌜ mapped versionOf r ≡ contentIn (now (records .entry)) .cell section plot field ⌝ }
 {
     let cover = cover_at(records, section, plot);
-    let cell = written_at(records, section, plot, field);
-    uncovered_cell(cover, cell)
+    cell_under(cover, records, section, plot, field)
 }
 
 // A record's plot as one number (section, then plot, 0 for a deletion), if it is above another.

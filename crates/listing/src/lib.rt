@@ -10,6 +10,7 @@ mod text;
 pub use count::count_section;
 pub use fold::cell_at;
 pub use fold::cover_at;
+pub use section::PlotCount;
 pub use section::SectionCount;
 pub use sheet::Sheet;
 pub use text::Line;

@@ -32,8 +32,8 @@ pub impl fmt::Display for Line<'_> as LineDisplay {
 pub impl fmt::Display for SectionCount as SectionCountDisplay {
     fn fmt<W: fmt::Write>(&self, f: &mut fmt::Formatter<W>) -> fmt::Result {
         let section = self.section;
-        let listed = self.listed;
-        let free = self.free;
+        let listed = self.plots.listed;
+        let free = self.plots.free;
         write!(f, "section {section}: {listed} listed, {free} free")
     }
 }

@@ -6,3 +6,4 @@ pub mod Joins
 pub mod Ext
 pub mod Says
 pub mod Passing
+pub mod Examples

@@ -16,7 +16,7 @@ returns-in-Break-push c = made-from-err (c .from-residual .result) _ (c .from-re
 pub loop-i-again : need.loop-i-again
 loop-i-again c =
     ap (map outcome) (c .in-Continue-push .ensures tt .items)
-    ∙ decoded-more (c .args .bytes .now) (c .loop-i .i) (vec-items (c .loop-i .lines)) (c .decode .result) (c .loop-i .inv) (c .decode .ensures ∙ ap decoded (c .piece .ensures))
+    ∙ decoded-more (c .args .bytes .now) (c .loop-i .i) (vec-items (c .loop-i .lines)) (c .decode .result) (c .loop-i .inv) (c .decode .ensures .outcome ∙ ap decoded (c .piece .ensures))
 
 pub returns : need.returns
 returns c = decoded-all (c .args .bytes .now) (c .loop-i .i) (c .div-ceil-i-end .result) (vec-items (c .loop-i .lines)) (c .loop-i .inv) (omega arith) (c .div-ceil-i-end .ensures)

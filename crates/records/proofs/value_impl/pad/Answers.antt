@@ -1,5 +1,5 @@
 use Rattle.records.proofs.Zeros.{front-is, rest-is}
-use Rattle.records.proofs.make.padded.Needs as need
+use Rattle.records.proofs.value_impl.pad.Needs as need
 
 pub returns : need.returns
 returns c =

@@ -3,7 +3,7 @@ use mathlib.Core.Path.{_≡_}
 use lib.ListN.{length}
 use Rattle.records.specs.Listed.{passing, listed, free}
 use Rattle.listing.specs.Fold.{contentIn}
-use Rattle.listing.proofs.count.count_section.Given as given
+use Rattle.listing.proofs.count.count_plots.Given as given
 
 abbrev pub Inv-loop-next : given.InvT-loop-next
 Inv-loop-next l =

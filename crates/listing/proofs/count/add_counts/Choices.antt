@@ -7,7 +7,7 @@ use Rattle.records.specs.Meaning.{says}
 use Rattle.records.specs.Listed.{passing}
 use Rattle.listing.specs.Fold.{inSection}
 use Rattle.listing.specs.Count.{countOf}
-use Rattle.listing.proofs.count.count_sections.Given as given
+use Rattle.listing.proofs.count.add_counts.Given as given
 
 abbrev pub Inv-loop-next : given.InvT-loop-next
 Inv-loop-next l =

@@ -5,7 +5,7 @@ use Rattle.records.specs.Listed.{listed, free}
 use Rattle.records.proofs.Passing.{passing-none}
 use Rattle.listing.specs.Fold.{contentIn}
 use Rattle.listing.proofs.Counts.{bare-listed, bare-free, count-more, count-all, count-fits}
-use Rattle.listing.proofs.count.count_section.Needs as need
+use Rattle.listing.proofs.count.count_plots.Needs as need
 
 pub loop-next-holds : need.loop-next-holds
 loop-next-holds c =
@@ -41,7 +41,6 @@ returns c =
     let s = c .args .section in
     let h = c .in-rest .ensures tt in
     λ i. record {
-      section = s;
       listed = count-all C s (listed C s) (bare-listed C s) (c .loop-next .plot) (c .loop-next .listed) (c .loop-next .inv .1) (c .loop-next .inv .0) h i;
       free = count-all C s (free C s) (bare-free C s) (c .loop-next .plot) (c .loop-next .free) (c .loop-next .inv .2) (c .loop-next .inv .0) h i;
     }

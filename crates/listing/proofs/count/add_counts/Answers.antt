@@ -8,12 +8,12 @@ use Rattle.records.proofs.Passing.{passing-none}
 use Rattle.listing.specs.Fold.{inSection}
 use Rattle.listing.specs.Count.{countOf}
 use Rattle.listing.proofs.Counts.{section-more, section-all}
-use Rattle.listing.proofs.count.count_sections.Needs as need
+use Rattle.listing.proofs.count.add_counts.Needs as need
 
 pub loop-next-holds : need.loop-next-holds
 loop-next-holds c =
     let ms = map says (c .args .records .now) in
-    (omega arith, c .new-counts .ensures .items ∙ ap (map (countOf (contentOf ms))) (sym (passing-none (inSection ms))))
+    (omega arith, c .pre ∙ ap (map (countOf (contentOf ms))) (sym (passing-none (inSection ms))))
 
 pub loop-next-again : need.loop-next-again
 loop-next-again c =

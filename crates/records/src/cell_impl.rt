@@ -1,0 +1,166 @@
+//! Cells: making and reading them, and which is greater.
+
+ghost use mathlib.Core.Path.{_≡_};
+ghost use mathlib.Core.Bool.{cond, _&&_};
+ghost use mathlib.Core.List.{List};
+ghost use Prim.Native.Nat.{ℕ};
+ghost use Rattle.std.specs.Options.{mapped};
+ghost use Rattle.std.specs.declared.option.Option.the-variants.{Some, None};
+ghost use Rattle.records.specs.Order.{upto};
+ghost use Rattle.records.specs.States.{bytesOf, rankOf, dayOf, valueOf};
+ghost use Rattle.records.specs.Content.{entry, live, cleared as clearedAt, isLive, versionKey};
+ghost use Rattle.records.specs.Meaning.{cellSays, versionOf, greaterOf};
+ghost use Rattle.records.specs.Ranges.{placeFits, stampFits, dayFits};
+use crate::cell::Cell;
+use crate::range::LAST_DAY;
+use crate::range::LAST_FIELD;
+use crate::range::LAST_PLOT;
+use crate::range::LAST_SECTION;
+use crate::range::LAST_STAMP;
+use crate::range::within;
+use crate::state::State;
+use crate::value::Value;
+
+fn place_fits(section: u16, plot: u32, field: u8) -> bool
+    ensures { λ r. ⌜ r ≡ placeFits section plot field ⌝ }
+{
+    within(1, section as u64, LAST_SECTION as u64)
+        && within(1, plot as u64, LAST_PLOT as u64)
+        && within(1, field as u64, LAST_FIELD as u64)
+}
+
+fn bytes_upto(x: &[u8], y: &[u8]) -> bool
+    ensures { λ r. ⌜ r ≡ upto (now (x .entry)) (now (y .entry)) ⌝ }
+{
+    x <= y
+}
+
+impl State {
+    fn rank(&self) -> u8
+        ensures { λ r. ⌜ r ≡ rankOf (now (self .entry)) ⌝ }
+    {
+        match self {
+            State::Live(_) => 0,
+            State::Cleared(_) => 1,
+        }
+    }
+
+    fn day(&self) -> u32
+        ensures { λ r. ⌜ r ≡ dayOf (now (self .entry)) ⌝ }
+    {
+        match self {
+            State::Live(_) => 0,
+            State::Cleared(day) => *day,
+        }
+    }
+
+    fn value(&self) -> &[u8]
+        ensures { λ r. ⌜ now r ≡ valueOf (now (self .entry)) ⌝ }
+    {
+        match self {
+            State::Live(value) => value.bytes(),
+            State::Cleared(_) => &[],
+        }
+    }
+}
+
+impl Cell {
+    /// A cell that holds a value, unless a number is out of its range.
+    pub fn live(section: u16, plot: u32, field: u8, stamp: u64, value: Value) -> Option<Cell>
+        ensures { λ r. ⌜ mapped cellSays r ≡ cond (placeFits section plot field && stampFits stamp) (Some (entry section plot field (live stamp (bytesOf value)))) None ⌝ }
+    {
+        if !(place_fits(section, plot, field) && within(1, stamp, LAST_STAMP)) {
+            return None;
+        }
+        let state = State::Live(value);
+        Some(Cell {
+            section,
+            plot,
+            field,
+            stamp,
+            state,
+        })
+    }
+
+    /// A cell that was cleared, unless a number is out of its range.
+    pub fn cleared(section: u16, plot: u32, field: u8, stamp: u64, day: u32) -> Option<Cell>
+        ensures { λ r. ⌜ mapped cellSays r ≡ cond (placeFits section plot field && (stampFits stamp && dayFits day)) (Some (entry section plot field (clearedAt stamp day))) None ⌝ }
+    {
+        if !place_fits(section, plot, field) {
+            return None;
+        }
+        if !(within(1, stamp, LAST_STAMP) && within(1, day as u64, LAST_DAY as u64)) {
+            return None;
+        }
+        let state = State::Cleared(day);
+        Some(Cell {
+            section,
+            plot,
+            field,
+            stamp,
+            state,
+        })
+    }
+
+    pub fn section(&self) -> u16
+        ensures { λ r. ⌜ r ≡ now (self .entry) .section ⌝ }
+    {
+        self.section
+    }
+
+    pub fn plot(&self) -> u32
+        ensures { λ r. ⌜ r ≡ now (self .entry) .plot ⌝ }
+    {
+        self.plot
+    }
+
+    pub fn field(&self) -> u8
+        ensures { λ r. ⌜ r ≡ now (self .entry) .field ⌝ }
+    {
+        self.field
+    }
+
+    pub fn stamp(&self) -> u64
+        ensures { λ r. ⌜ r ≡ now (self .entry) .stamp ⌝ }
+    {
+        self.stamp
+    }
+
+    pub fn state(&self) -> State
+        ensures { λ r. ⌜ r ≡ now (self .entry) .state ⌝ }
+    {
+        self.state
+    }
+
+    /// Whether it holds a value.
+    pub fn is_live(&self) -> bool
+        ensures { λ r. ⌜ r ≡ isLive (Some (versionOf (now (self .entry)))) ⌝ }
+    {
+        self.state.rank() == 0
+    }
+
+    // Whether it is no greater than another of its place.
+    fn upto(&self, other: &Cell) -> bool
+        ensures { λ r. ⌜ r ≡ upto (versionKey (versionOf (now (self .entry)))) (versionKey (versionOf (now (other .entry)))) ⌝ }
+    {
+        if self.stamp != other.stamp {
+            return self.stamp < other.stamp;
+        }
+        let a = self.state;
+        let b = other.state;
+        if a.rank() != b.rank() {
+            return a.rank() < b.rank();
+        }
+        if a.day() != b.day() {
+            return a.day() < b.day();
+        }
+        bytes_upto(a.value(), b.value())
+    }
+
+    /// The greater of two cells of one place, the other where they hold the same since the same stamp.
+    pub fn greater(self, other: Cell) -> Cell
+        ensures { λ r. ⌜ Some r ≡ greaterOf (Some self) (Some other) ⌝ }
+    {
+        if self.upto(&other) { other } else { self }
+    }
+}
