@@ -136,7 +136,8 @@ impl Cell {
     pub fn is_live(&self) -> bool
         ensures { λ r. ⌜ r ≡ isLive (Some (versionOf (now (self .entry)))) ⌝ }
     {
-        self.state.rank() == 0
+        let rank = self.state.rank();
+        rank == 0
     }
 
     // Whether it is no greater than another of its place.
