@@ -10,7 +10,7 @@ use Rattle.std.proofs.shelf.Lists.{take-more, take-all, map-append}
 use Rattle.records.specs.declared.record.Record.{Record}
 use Rattle.records.specs.Content.{Mutation, later, greater, uncovered, one, contentOf}
 use Rattle.records.specs.Meaning.{says}
-use Rattle.records.proofs.Places.{later-none, later-assoc, greater-none, greater-assoc, floor, floor-later, absorb-right}
+use Rattle.reconcile.proofs.Places.{later-none, later-assoc, greater-none, greater-assoc, floor, floor-later, absorb-right}
 use Rattle.listing.specs.Fold.{foldOf, written, lesser, keyAbove}
 
 -- the first i + 1 records

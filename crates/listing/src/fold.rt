@@ -7,12 +7,12 @@ ghost use Rattle.std.specs.Options.{mapped};
 ghost use Rattle.records.specs.Content.{one};
 ghost use Rattle.records.specs.Meaning.{says, versionOf};
 ghost use Rattle.listing.specs.Fold.{contentIn, written, keyAbove, lesser, nextKey};
+use reconcile::greater_cell;
+use reconcile::later_cover;
+use reconcile::uncovered_cell;
 use records::Cell;
 use records::Record;
 use records::Tombstone;
-use records::reconcile::greater_cell;
-use records::reconcile::later_cover;
-use records::reconcile::uncovered_cell;
 
 // What one record leaves on a plot.
 fn cover_by(record: &Record, section: u16, plot: u32) -> Option<Tombstone>

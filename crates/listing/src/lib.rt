@@ -5,7 +5,6 @@ mod fold;
 mod read;
 mod section;
 mod sheet;
-mod text;
 
 pub use count::count_section;
 pub use fold::cell_at;
@@ -13,6 +12,3 @@ pub use fold::cover_at;
 pub use section::PlotCount;
 pub use section::SectionCount;
 pub use sheet::Sheet;
-pub use text::Line;
-pub use text::LineDisplay;
-pub use text::SectionCountDisplay;

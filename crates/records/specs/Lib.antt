@@ -4,6 +4,4 @@ pub mod Order
 pub mod Content
 pub mod Ranges
 pub mod Meaning
-pub mod Laws
-pub mod Examples
 pub mod Listed

@@ -1,11 +1,10 @@
 ghost use Prim.Native.Nat.{ℕ, _≤_};
 ghost use Rattle.records.specs.States.{rankOf, dayOf};
 use crate::state::State;
-use crate::state::StateDebug;
 use crate::state::StatePartialEq;
 
 /// A cell: what stands at a place (section, plot and field) since a stamp.
-#[derive(Clone, Copy, PartialEq, Debug)]
+#[derive(Clone, Copy, PartialEq)]
 pub struct Cell {
     pub(crate) section: u16,
     pub(crate) plot: u32,

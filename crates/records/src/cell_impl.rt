@@ -1,15 +1,13 @@
-//! Cells: making and reading them, and which is greater.
+//! Cells: making and reading them.
 
 ghost use mathlib.Core.Path.{_≡_};
 ghost use mathlib.Core.Bool.{cond, _&&_};
-ghost use mathlib.Core.List.{List};
 ghost use Prim.Native.Nat.{ℕ};
 ghost use Rattle.std.specs.Options.{mapped};
 ghost use Rattle.std.specs.declared.option.Option.the-variants.{Some, None};
-ghost use Rattle.records.specs.Order.{upto};
-ghost use Rattle.records.specs.States.{bytesOf, rankOf, dayOf, valueOf};
-ghost use Rattle.records.specs.Content.{entry, live, cleared as clearedAt, isLive, versionKey};
-ghost use Rattle.records.specs.Meaning.{cellSays, versionOf, greaterOf};
+ghost use Rattle.records.specs.States.{bytesOf};
+ghost use Rattle.records.specs.Content.{entry, live, cleared as clearedAt, isLive};
+ghost use Rattle.records.specs.Meaning.{cellSays, versionOf};
 ghost use Rattle.records.specs.Ranges.{placeFits, stampFits, dayFits};
 use crate::cell::Cell;
 use crate::range::LAST_DAY;
@@ -27,41 +25,6 @@ fn place_fits(section: u16, plot: u32, field: u8) -> bool
     within(1, section as u64, LAST_SECTION as u64)
         && within(1, plot as u64, LAST_PLOT as u64)
         && within(1, field as u64, LAST_FIELD as u64)
-}
-
-fn bytes_upto(x: &[u8], y: &[u8]) -> bool
-    ensures { λ r. ⌜ r ≡ upto (now (x .entry)) (now (y .entry)) ⌝ }
-{
-    x <= y
-}
-
-impl State {
-    fn rank(&self) -> u8
-        ensures { λ r. ⌜ r ≡ rankOf (now (self .entry)) ⌝ }
-    {
-        match self {
-            State::Live(_) => 0,
-            State::Cleared(_) => 1,
-        }
-    }
-
-    fn day(&self) -> u32
-        ensures { λ r. ⌜ r ≡ dayOf (now (self .entry)) ⌝ }
-    {
-        match self {
-            State::Live(_) => 0,
-            State::Cleared(day) => *day,
-        }
-    }
-
-    fn value(&self) -> &[u8]
-        ensures { λ r. ⌜ now r ≡ valueOf (now (self .entry)) ⌝ }
-    {
-        match self {
-            State::Live(value) => value.bytes(),
-            State::Cleared(_) => &[],
-        }
-    }
 }
 
 impl Cell {
@@ -136,32 +99,9 @@ impl Cell {
     pub fn is_live(&self) -> bool
         ensures { λ r. ⌜ r ≡ isLive (Some (versionOf (now (self .entry)))) ⌝ }
     {
-        let rank = self.state.rank();
-        rank == 0
-    }
-
-    // Whether it is no greater than another of its place.
-    fn upto(&self, other: &Cell) -> bool
-        ensures { λ r. ⌜ r ≡ upto (versionKey (versionOf (now (self .entry)))) (versionKey (versionOf (now (other .entry)))) ⌝ }
-    {
-        if self.stamp != other.stamp {
-            return self.stamp < other.stamp;
+        match self.state {
+            State::Live(_) => true,
+            State::Cleared(_) => false,
         }
-        let a = self.state;
-        let b = other.state;
-        if a.rank() != b.rank() {
-            return a.rank() < b.rank();
-        }
-        if a.day() != b.day() {
-            return a.day() < b.day();
-        }
-        bytes_upto(a.value(), b.value())
-    }
-
-    /// The greater of two cells of one place, the other where they hold the same since the same stamp.
-    pub fn greater(self, other: Cell) -> Cell
-        ensures { λ r. ⌜ Some r ≡ greaterOf (Some self) (Some other) ⌝ }
-    {
-        if self.upto(&other) { other } else { self }
     }
 }

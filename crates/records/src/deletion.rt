@@ -1,7 +1,7 @@
 ghost use Prim.Native.Nat.{ℕ, _≤_};
 
 /// A deletion of the plots `first` to `last` of a section: it covers every cell there with its stamp or a lower one.
-#[derive(Clone, Copy, PartialEq, Debug)]
+#[derive(Clone, Copy, PartialEq)]
 pub struct Deletion {
     pub(crate) section: u16,
     pub(crate) first: u32,

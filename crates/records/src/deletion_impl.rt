@@ -1,14 +1,13 @@
-//! Deletions: making and reading them, which is later, and what one covers.
+//! Deletions: making and reading them.
 
 ghost use mathlib.Core.Path.{_≡_};
 ghost use mathlib.Core.Bool.{cond};
 ghost use Prim.Native.Nat.{ℕ};
 ghost use Rattle.std.specs.Options.{mapped};
 ghost use Rattle.std.specs.declared.option.Option.the-variants.{Some, None};
-ghost use Rattle.records.specs.Content.{deletion, covered, one};
-ghost use Rattle.records.specs.Meaning.{tombstoneOf, deletionSays, laterOf};
+ghost use Rattle.records.specs.Content.{deletion};
+ghost use Rattle.records.specs.Meaning.{tombstoneOf, deletionSays};
 ghost use Rattle.records.specs.Ranges.{deletionFits};
-use crate::cell::Cell;
 use crate::deletion::Deletion;
 use crate::range::LAST_DAY;
 use crate::range::LAST_PLOT;
@@ -67,26 +66,5 @@ impl Deletion {
             stamp: self.stamp,
             day: self.day,
         }
-    }
-
-    /// The later of two deletions, the other where their stamps and days are equal.
-    pub fn later(self, other: Deletion) -> Deletion
-        ensures { λ r. ⌜ Some r ≡ laterOf (Some self) (Some other) ⌝ }
-    {
-        if self.tombstone().upto(&other.tombstone()) {
-            other
-        } else {
-            self
-        }
-    }
-
-    /// Whether it covers a cell: one on its plots with its stamp or a lower one.
-    pub fn covers(&self, cell: &Cell) -> bool
-        ensures { λ r. ⌜ r ≡ covered (one (deletionSays (now (self .entry))) .cover (now (cell .entry) .section) (now (cell .entry) .plot)) (now (cell .entry) .stamp) ⌝ }
-    {
-        let on_its_plots = cell.section == self.section
-            && self.first <= cell.plot
-            && cell.plot <= self.last;
-        on_its_plots && cell.stamp <= self.stamp
     }
 }

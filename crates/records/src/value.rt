@@ -6,7 +6,7 @@ ghost use Rattle.std.specs.Orderings.{Decides};
 ghost use Rattle.records.specs.Zeros.{allZero};
 
 /// The value of a live cell: 0 to 23 bytes. The bytes behind the value are 0, so equal values are equal structs.
-#[derive(Clone, Copy, Debug)]
+#[derive(Clone, Copy)]
 pub struct Value {
     pub(crate) bytes: [u8; 23],
     pub(crate) len: u8,

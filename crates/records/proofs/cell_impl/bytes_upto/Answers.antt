@@ -1,5 +1,0 @@
-use Rattle.records.proofs.Bytes.{is-upto}
-use Rattle.records.proofs.cell_impl.bytes_upto.Needs as need
-
-pub returns : need.returns
-returns c = is-upto (c .args .x .now) (c .args .y .now) (c .le .result) (c .le .ensures)
