@@ -4,21 +4,19 @@
 use listing::Sheet;
 use std::error::AnyError;
 use std::io::Read;
-use wording::RecordLine;
-use wording::RecordLineDisplay;
-use wording::SectionLine;
-use wording::SectionLineDisplay;
+use wording::record_line;
+use wording::section_line;
 
 fn run(rt: &LibcRuntime) -> Result<(), AnyError> {
     let mut bytes = Vec::new(rt.alloc());
     rt.stdin().read_to_end(&mut bytes)?;
     let sheet = Sheet::read(rt.alloc(), &bytes)?;
     for (index, read) in sheet.lines.iter().enumerate() {
-        let line = RecordLine { index, read };
+        let line = record_line(rt.alloc(), index, read)?;
         println!(rt, "{line}")?;
     }
     for count in &sheet.counts {
-        let line = SectionLine(*count);
+        let line = section_line(rt.alloc(), *count)?;
         println!(rt, "{line}")?;
     }
     Ok(())

@@ -1,8 +1,9 @@
 //! A sheet in words, for a person.
 
+mod fault;
 mod line;
+mod record;
+mod value;
 
-pub use line::RecordLine;
-pub use line::RecordLineDisplay;
-pub use line::SectionLine;
-pub use line::SectionLineDisplay;
+pub use line::record_line;
+pub use line::section_line;
