@@ -13,7 +13,8 @@ use Rattle.layout.specs.declared.part.Part.{Part}
 use Rattle.layout.specs.declared.part.Part.the-variants.{Kind, Field, Section, FirstPlot, LastPlot, Stamp, Day, ValueLength, Value}
 use Rattle.layout.specs.declared.fault.RecordFault.{RecordFault}
 use Rattle.layout.specs.declared.fault.RecordFault.the-variants.{Length, Malformed}
-use Rattle.layout.specs.Faults.{firstByte}
+use Rattle.layout.specs.declared.fault.Refusal.{Refusal}
+use Rattle.layout.specs.Faults.{refusalOf}
 use Rattle.listing.specs.declared.section.SectionCount.{SectionCount}
 
 -- a byte that is printed as it is: ASCII from space to tilde, but for the quote and the backslash
@@ -71,10 +72,16 @@ partText Day = codes "day"
 partText ValueLength = codes "value length"
 partText Value = codes "value"
 
+abbrev pub lengthText : Refusal → List ℕ
+lengthText r = codes "refused, " ++ (decimal (r .number) ++ codes " length: not 48 bytes")
+
+abbrev pub malformedText : Refusal → List ℕ → List ℕ
+malformedText r part = codes "refused, " ++ (decimal (r .number) ++ (codes " malformed at byte " ++ (decimal (r .byte) ++ (codes ": " ++ part))))
+
 -- why bytes are no record
 abbrev pub faultText : RecordFault → List ℕ
-faultText Length = codes "refused, 1 length: not 48 bytes"
-faultText (Malformed part) = codes "refused, 2 malformed at byte " ++ (decimal (firstByte part) ++ (codes ": " ++ partText part))
+faultText Length = lengthText (refusalOf Length)
+faultText (Malformed part) = malformedText (refusalOf (Malformed part)) (partText part)
 
 abbrev pub outcomeText : Result Mutation RecordFault → List ℕ
 outcomeText (Ok m) = recordText m

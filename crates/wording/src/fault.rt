@@ -5,9 +5,10 @@ ghost use mathlib.Core.List.{List};
 ghost use Prim.Native.Nat.{ℕ};
 ghost use Rattle.std.specs.Of.String.{string-bytes};
 ghost use Rattle.std.specs.Vec.{made};
-ghost use Rattle.wording.specs.Words.{partText, faultText};
+ghost use Rattle.wording.specs.Words.{partText, lengthText, malformedText, faultText};
 use layout::Part;
 use layout::RecordFault;
+use layout::Refusal;
 use std::alloc::AllocError;
 use std::alloc::Global;
 
@@ -27,15 +28,27 @@ fn part_name(part: Part) -> &'static str
     }
 }
 
+fn length_line(heap: Global, refusal: Refusal) -> Result<String, AllocError>
+    ensures { λ r. ⌜ made r (λ s. string-bytes s ≡ lengthText refusal) ⌝ }
+{
+    let number = refusal.number;
+    format!(heap, "refused, {number} length: not 48 bytes")
+}
+
+fn malformed_line(heap: Global, refusal: Refusal, part: &str) -> Result<String, AllocError>
+    ensures { λ r. ⌜ made r (λ s. string-bytes s ≡ malformedText refusal (now (part .entry))) ⌝ }
+{
+    let number = refusal.number;
+    let byte = refusal.byte;
+    format!(heap, "refused, {number} malformed at byte {byte}: {part}")
+}
+
 pub(crate) fn fault_text(heap: Global, fault: RecordFault) -> Result<String, AllocError>
     ensures { λ r. ⌜ made r (λ s. string-bytes s ≡ faultText fault) ⌝ }
 {
+    let refusal = fault.refusal();
     match fault {
-        RecordFault::Length => format!(heap, "refused, 1 length: not 48 bytes"),
-        RecordFault::Malformed(part) => {
-            let byte = fault.refusal().byte;
-            let name = part_name(part);
-            format!(heap, "refused, 2 malformed at byte {byte}: {name}")
-        }
+        RecordFault::Length => length_line(heap, refusal),
+        RecordFault::Malformed(part) => malformed_line(heap, refusal, part_name(part)),
     }
 }
