@@ -1,13 +1,12 @@
 -- Numbers in fields of given widths: there and back.
 use mathlib.Core.Path.{_≡_, refl, sym, ap, _∙_}
 use mathlib.Core.List.{List, [], _∷_, _++_}
-use Prim.Native.Nat.{ℕ, zero, suc, _+_, _-_, _*_, _/_, _%_, _^_, _<_, _≤_}
+use Prim.Native.Nat.{ℕ, zero, suc, _+_, _-_, _*_, _^_, _<_, _≤_}
 use native.Mathlib.Omega.{arith}
 use native.Mathlib.Nat.{mod-eq-of-lt}
-use lib.ListN.{length, take, drop, replicate, getD}
+use lib.ListN.{length, take, drop, getD}
 use Rattle.std.specs.shelf.Digits.{Under}
-use Rattle.std.specs.shelf.Lists.{paste}
-use Rattle.std.proofs.shelf.Lists.{take-at, drop-at, take-append-drop, length-take, length-drop, length-append, length-take-le, take-all, drop-replicate, drop-drop, append-assoc, length-replicate}
+use Rattle.std.proofs.shelf.Lists.{take-at, drop-at, take-append-drop, length-drop, length-append, length-take-le, drop-drop, append-assoc}
 use Rattle.layout.specs.Numbers.{digits, numberAt, laid}
 use Rattle.layout.proofs.Numbers.{be, be-digits, digits-be, length-digits, number-is}
 

@@ -1,19 +1,17 @@
 -- What the rules say of a row that breaks none.
-use mathlib.Core.Path.{_≡_, refl, sym, ap, _∙_}
+use mathlib.Core.Path.{_≡_, refl, sym, _∙_}
 use mathlib.Core.Bool.{Bool, true, false, cond, _&&_}
-use mathlib.Core.List.{List, [], _∷_, _++_}
-use Prim.Native.Nat.{ℕ, _+_, _-_, _≤_, _<_}
+use mathlib.Core.List.{List, [], _∷_}
+use Prim.Native.Nat.{ℕ, _-_}
 use native.Mathlib.Omega.{arith}
-use lib.Dec.{leb, eqb}
-use lib.ListN.{length, take, drop, replicate}
+use lib.Dec.{eqb}
+use lib.ListN.{drop}
 use Rattle.std.specs.Options.{mapped}
-use Rattle.std.specs.declared.option.Option.{Option}
 use Rattle.std.specs.declared.option.Option.the-variants.{None, Some}
 use Rattle.std.proofs.shelf.Ways.{tells}
 use Rattle.records.specs.Zeros.{allZero}
-use Rattle.records.specs.Ranges.{sectionFits, plotFits, lastFits, fieldFits, placeFits, stampFits, dayFits, deletionFits, within}
-use Rattle.records.specs.Content.{Mutation, deletion, entry, live, cleared}
-use Rattle.records.proofs.Zeros.{zeros-are}
+use Rattle.records.specs.Ranges.{sectionFits, plotFits, placeFits, stampFits, dayFits, deletionFits, within}
+use Rattle.records.specs.Content.{deletion}
 use Rattle.layout.specs.declared.row.Row.{Row}
 use Rattle.layout.specs.declared.fault.RecordFault.the-variants.{Malformed}
 use Rattle.layout.specs.Layout.{Rule, rules, firstBroken, mutationIn}
@@ -37,9 +35,6 @@ all-hold (r ∷ rs) e = go (all-hold rs) (r .holds) refl
 
 same : (a b : ℕ) → eqb a b ≡ true → a ≡ b
 same a b h = grind (arith, tells)
-
-upto-of : (a b : ℕ) → leb a b ≡ true → a ≤ b
-upto-of a b h = grind (arith, tells)
 
 both : (a b : Bool) → a ≡ true → b ≡ true → (a && b) ≡ true
 both a b h k = grind (arith, tells)
@@ -92,12 +87,6 @@ module _ (r : Row) (e : firstBroken (rules r) ≡ None) where
   pub cleared-fits : r .kind ≡ 3 → (placeFits (r .section) (r .first) (r .field) && (stampFits (r .stamp) && dayFits (r .day))) ≡ true
   cleared-fits k = both _ _ (place-fits (λ x. omega arith)) (both _ _ (p .stamp) (day-fits (λ x. omega arith)))
 
-  pub short : r .kind ≡ 2 → r .len ≤ 23
-  short k = upto-of (r .len) 23 (if-so (r .kind) 2 _ _ k (h .1 .1 .1 .1 .1 .1 .1 .0))
-
-  pub no-day : r .kind ≡ 2 → r .day ≡ 0
-  no-day k = same (r .day) 0 (if-so (r .kind) 2 _ _ k (h .1 .1 .1 .1 .1 .1 .0))
-
   pub no-value : (r .kind ≡ 2 → ⊥) → r .len ≡ 0
   no-value k = same (r .len) 0 (if-not (r .kind) 2 _ _ k (h .1 .1 .1 .1 .1 .1 .1 .0))
 
@@ -112,24 +101,7 @@ module _ (r : Row) (e : firstBroken (rules r) ≡ None) where
   pub deletion-in : r .kind ≡ 1 → deletion (r .section) (r .first) (r .last) (record { stamp = r .stamp; day = r .day }) ≡ mutationIn r
   deletion-in k = taken (r .kind) 1 _ _ k
 
-  pub live-in : (v : List ℕ) → r .kind ≡ 2 → v ≡ take (r .len) (r .value) → entry (r .section) (r .first) (r .field) (live (r .stamp) v) ≡ mutationIn r
-  live-in v k e' =
-      let rank : 0 ≡ r .kind - 2 = omega arith in
-      let day : 0 ≡ r .day = sym (no-day k) in
-      (λ i. entry (r .section) (r .first) (r .field) (record { stamp = r .stamp; rank = rank i; day = day i; value = e' i }))
-      ∙ left (r .kind) 1 _ _ (λ x. omega arith)
-
-  pub cleared-in : r .kind ≡ 3 → entry (r .section) (r .first) (r .field) (cleared (r .stamp) (r .day)) ≡ mutationIn r
-  cleared-in k =
-      let rank : 1 ≡ r .kind - 2 = omega arith in
-      let none : [] ≡ take (r .len) (r .value) = ap (λ n. take n (r .value)) (sym (no-value (λ x. omega arith))) in
-      (λ i. entry (r .section) (r .first) (r .field) (record { stamp = r .stamp; rank = rank i; day = r .day; value = none i }))
-      ∙ left (r .kind) 1 _ _ (λ x. omega arith)
-
--- what a constructor gives where its numbers fit
-pub made : {A B : Type 0} (f : A → B) (x : A) (fits : Bool) (y : B) → mapped f (Some x) ≡ cond fits (Some y) None → fits ≡ true → f x ≡ y
-made f x fits y e t = let w : Some (f x) ≡ Some y = e ∙ rw t in cc
-
+-- a constructor does not refuse numbers that fit
 pub not-made : {A B : Type 0} (f : A → B) (fits : Bool) (y : B) → mapped f None ≡ cond fits (Some y) None → fits ≡ true → ⊥
 not-made f fits y e t =
     let w : None ≡ Some y = e ∙ rw t in

@@ -4,11 +4,11 @@ use mathlib.Core.List.{List, [], _∷_}
 use Prim.Native.Nat.{ℕ, zero, suc, _+_, _-_, _*_, _/_, _%_, _^_, _<_, _≤_}
 use native.Mathlib.Omega.{arith}
 use native.Mathlib.Nat.{zero-add}
-use lib.ListN.{length, take, drop, getD}
+use lib.ListN.{length, take, drop}
 use Rattle.std.specs.shelf.Digits.{Under}
 use Rattle.std.proofs.shelf.Lists.{drop-more, length-take, length-drop}
 use Rattle.layout.specs.Numbers.{digits, numberAt}
-use Rattle.std.proofs.shelf.Bits.{pow-pos, pow-add, mod-pow-add, mod-low, shr-high, field-of, mod-below, mul-add-lt}
+use Rattle.std.proofs.shelf.Bits.{pow-add, mod-pow-add, mod-low, shr-high, field-of, mul-add-lt}
 
 -- the number that bytes write, the highest first
 abbrev pub be : List ℕ → ℕ

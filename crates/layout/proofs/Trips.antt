@@ -1,9 +1,8 @@
 -- Bytes and rows, rows and records: there and back.
 use mathlib.Core.Path.{_≡_, refl, sym, ap, _∙_}
 use mathlib.Core.Bool.{Bool, true, false, cond}
-use mathlib.Core.Logic.{_⊎_, inl, inr}
 use mathlib.Core.List.{List, [], _∷_, _++_}
-use Prim.Native.Nat.{ℕ, _+_, _-_, _≤_, _<_, _*_, _^_}
+use Prim.Native.Nat.{ℕ, _+_, _-_, _≤_, _*_}
 use native.Mathlib.Omega.{arith}
 use lib.Dec.{leb, eqb}
 use lib.ListN.{length, take, drop, getD, replicate}
@@ -17,8 +16,8 @@ use Rattle.std.proofs.shelf.Lists.{take-at, drop-at, length-append, length-repl
 use Rattle.records.specs.Zeros.{allZero}
 use Rattle.records.specs.Ranges.{within}
 use Rattle.records.specs.States.{bytesOf, rankOf, dayOf, valueOf}
-use Rattle.records.specs.Content.{Mutation, deletion, entry}
-use Rattle.records.specs.Meaning.{deletionSays, cellSays, says, versionOf}
+use Rattle.records.specs.Content.{entry}
+use Rattle.records.specs.Meaning.{deletionSays, says}
 use Rattle.records.specs.declared.state.State.{State}
 use Rattle.records.specs.declared.state.State.the-variants.{Live, Cleared}
 use Rattle.records.specs.declared.deletion.Deletion.{Deletion}
@@ -29,7 +28,7 @@ use Rattle.records.proofs.Zeros.{zeros-are, zeros-zero}
 use Rattle.records.proofs.Says.{value-long, says-known}
 use Rattle.layout.specs.declared.row.Row.{Row}
 use Rattle.layout.specs.declared.fault.RecordFault.{RecordFault}
-use Rattle.layout.specs.declared.fault.RecordFault.the-variants.{Length, Malformed}
+use Rattle.layout.specs.declared.fault.RecordFault.the-variants.{Length}
 use Rattle.layout.specs.Numbers.{numberAt, laid}
 use Rattle.layout.specs.Layout.{rowAt, widths, numbers, rowBytes, rules, firstBroken, faultOf, mutationIn, unlessFault, decoded, rowOf, encoded, outcome}
 use Rattle.layout.proofs.Fields.{readAt, readAt-is, Fitting, read-laid-more, laid-read-more, length-laid}
@@ -287,3 +286,9 @@ pub encoded-again : (bs b : List ℕ) (r : Record) → Under 256 bs → Ok (says
 encoded-again bs b r u e w =
     let h = faultless (faultOf bs) (mutationIn (rowAt bs)) (says r) e in
     w ∙ ap encoded (h .1) ∙ encoded-decoded bs u (h .0)
+
+-- bytes that are not 48 have the fault of their length
+pub wrong-length : (bs : List ℕ) → (length bs ≡ 48 → ⊥) → faultOf bs ≡ Some Length
+wrong-length bs n =
+    let t : eqb (length bs) 48 ≡ false = grind (arith, tells) in
+    ap (λ b. cond b (firstBroken (rules (rowAt bs))) (Some Length)) t

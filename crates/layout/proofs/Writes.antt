@@ -1,11 +1,10 @@
 -- One write after another into a row's bytes.
-use mathlib.Core.Path.{_≡_, refl, sym, ap, _∙_}
-use mathlib.Core.List.{List, [], _∷_, _++_}
-use Prim.Native.Nat.{ℕ, _+_, _<_, _/_, _%_}
+use mathlib.Core.Path.{_≡_, ap, _∙_}
+use mathlib.Core.List.{List}
+use Prim.Native.Nat.{ℕ, _/_, _%_}
 use native.Mathlib.Omega.{arith}
 use lib.ListN.{length}
 use Rattle.std.specs.shelf.Lists.{paste}
-use Rattle.layout.specs.Numbers.{digits}
 
 -- `new`, n bytes long, is written at a place
 pub written : {b c d part : List ℕ} (at n : ℕ) (new : List ℕ) → c ≡ paste b at part (length part) → part ≡ new → length new ≡ n → b ≡ d → c ≡ paste d at new n

@@ -1,7 +1,7 @@
 //! Numbers in bytes, the highest byte first.
 
 ghost use mathlib.Core.Path.{_≡_};
-ghost use Prim.Native.Nat.{ℕ, _+_, _≤_};
+ghost use Prim.Native.Nat.{_+_, _≤_};
 ghost use lib.ListN.{length, drop};
 ghost use Rattle.std.specs.shelf.Lists.{paste};
 ghost use Rattle.layout.specs.Numbers.{numberAt, digits};

@@ -10,8 +10,8 @@ use Rattle.std.proofs.shelf.Lists.{take-more, take-all, map-append}
 use Rattle.records.specs.declared.record.Record.{Record}
 use Rattle.records.specs.Content.{Mutation, later, greater, uncovered, one, contentOf}
 use Rattle.records.specs.Meaning.{says}
-use Rattle.reconcile.proofs.Places.{later-none, later-assoc, greater-none, greater-assoc, floor, floor-later, absorb-right}
-use Rattle.listing.specs.Fold.{foldOf, written, lesser, keyAbove}
+use Rattle.reconcile.proofs.Places.{later-none, later-assoc, greater-none, greater-assoc, floor-later, absorb-right}
+use Rattle.listing.specs.Fold.{foldOf, written, lesser}
 
 -- the first i + 1 records
 says-more : (rs : List Record) (i : ℕ) (r : Record) → i < length rs → r ≡ getD rs i r → map says (take (i + 1) rs) ≡ map says (take i rs) ++ (says r ∷ [])

@@ -1,20 +1,19 @@
 -- The keys of records, one after another.
 use mathlib.Core.Path.{_≡_, refl, sym, ap, subst, _∙_}
 use mathlib.Core.Bool.{Bool, true, false, cond, _||_, _&&_}
-use mathlib.Core.List.{List, [], _∷_, _++_, map}
+use mathlib.Core.List.{List, [], _∷_, map}
 use mathlib.Core.Logic.{_⊎_, inl, inr}
 use Prim.Native.Nat.{ℕ, _+_, _-_, _*_, _/_, _%_, _≤_, _<_, min}
 use native.Mathlib.Omega.{arith}
 use lib.Dec.{eqb, ltb}
-use lib.ListN.{length}
 use Rattle.std.specs.declared.option.Option.{Option}
 use Rattle.std.specs.declared.option.Option.the-variants.{None, Some}
 use Rattle.std.proofs.shelf.Ways.{tells}
 use Rattle.records.specs.declared.record.Record.{Record}
 use Rattle.records.specs.declared.record.Record.the-variants as which
-use Rattle.records.specs.Content.{Version, Mutation, deletion, entry, greater, uncovered, one, contentOf}
+use Rattle.records.specs.Content.{Mutation, deletion, entry, uncovered, one, contentOf}
 use Rattle.records.specs.Meaning.{says}
-use Rattle.listing.specs.Fold.{foldOf, written, plotKey, keyOf, lesser, keyAbove, nextKey, hasKey, sectionOf, inSection}
+use Rattle.listing.specs.Fold.{written, plotKey, keyOf, lesser, keyAbove, nextKey, hasKey, sectionOf, inSection}
 use Rattle.listing.specs.Count.{Ahead, NextPlot, NextSection}
 use Rattle.listing.proofs.Folds.{cell-is}
 

@@ -1,4 +1,5 @@
 pub mod Folds
+pub mod Ats
 pub mod Keys
 pub mod Counts
 pub mod Lines

@@ -1,10 +1,12 @@
 -- What a list of records comes to, taken together record by record.
+use mathlib.Core.Path.{_≡_}
 use mathlib.Core.Bool.{Bool, cond, false, _||_}
 use mathlib.Core.List.{List, [], _∷_, map}
 use Prim.Native.Nat.{ℕ, _+_, _*_, min}
 use lib.Dec.{eqb, ltb}
 use Rattle.std.specs.declared.option.Option.{Option}
 use Rattle.std.specs.declared.option.Option.the-variants.{None, Some}
+use Rattle.records.specs.declared.cell.Cell.{Cell}
 use Rattle.records.specs.declared.record.Record.{Record}
 use Rattle.records.specs.Content.{Version, Content, Mutation, deletion, entry, greater, one, contentOf}
 use Rattle.records.specs.Meaning.{says}
@@ -16,6 +18,11 @@ foldOf op none of (m ∷ ms) = op (of m) (foldOf op none of ms)
 
 abbrev pub contentIn : List Record → Content
 contentIn rs = contentOf (map says rs)
+
+-- the cell, if any, stands at this place
+abbrev pub At : ℕ → ℕ → ℕ → Option Cell → Type 0
+At s p f None = Unit {0}
+At s p f (Some c) = (c .section ≡ s) × (c .plot ≡ p) × (c .field ≡ f)
 
 -- the greatest cell written at a place, covered or not
 abbrev pub written : List Mutation → ℕ → ℕ → ℕ → Option Version

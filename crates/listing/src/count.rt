@@ -2,7 +2,7 @@
 
 ghost use mathlib.Core.Path.{_≡_};
 ghost use mathlib.Core.List.{[], map};
-ghost use Prim.Native.Nat.{ℕ, _≤_};
+ghost use Prim.Native.Nat.{_≤_};
 ghost use Rattle.std.specs.Of.Vec.{vec-items};
 ghost use Rattle.std.specs.Vec.{made};
 ghost use Rattle.records.specs.Content.{isLive};
@@ -10,6 +10,7 @@ ghost use Rattle.records.specs.Meaning.{says};
 ghost use Rattle.records.specs.Listed.{listed as isListed, free as isFree};
 ghost use Rattle.listing.specs.Fold.{contentIn};
 ghost use Rattle.listing.specs.Count.{plotsOf, countOf, countsOf, NextPlot, NextSection};
+use crate::fold::SECTION_KEYS;
 use crate::fold::cell_at;
 use crate::fold::next_key;
 use crate::section::PlotCount;
@@ -39,10 +40,11 @@ fn listed_at(records: &[Record], section: u16, plot: u32) -> bool
     false
 }
 
-fn free_at(records: &[Record], section: u16, plot: u32) -> bool
+fn free_at(records: &[Record], section: u16, plot: u32, listed: bool) -> bool
+    requires { ⌜ listed ≡ isListed (contentIn (now records)) section plot ⌝ }
     ensures { λ r. ⌜ r ≡ isFree (contentIn (now (records .entry))) section plot ⌝ }
 {
-    listed_at(records, section, plot) && !live_at(records, section, plot, 1)
+    listed && !live_at(records, section, plot, 1)
 }
 
 // The first plot of a section, above another, with a cell written.
@@ -50,11 +52,11 @@ fn next_plot(records: &[Record], section: u16, after: u32) -> Option<u32>
     requires { ⌜ after ≤ 999999 ⌝ }
     ensures { λ r. ⌜ NextPlot (contentIn (now (records .entry))) section after r ⌝ }
 {
-    let start = 1_048_576 * section as u64;
+    let start = SECTION_KEYS * section as u64;
     let Some(key) = next_key(records, start + after as u64) else {
         return None;
     };
-    if key >= start + 1_048_576 {
+    if key >= start + SECTION_KEYS {
         return None;
     }
     Some((key - start) as u32)
@@ -68,8 +70,9 @@ fn count_plots(records: &[Record], section: u16) -> PlotCount
     let mut free = 0;
     let mut plot = 0;
     while let Some(next) = next_plot(records, section, plot) {
-        listed += u32::from(listed_at(records, section, next));
-        free += u32::from(free_at(records, section, next));
+        let here = listed_at(records, section, next);
+        listed += u32::from(here);
+        free += u32::from(free_at(records, section, next, here));
         plot = next;
     }
     PlotCount { listed, free }
@@ -88,10 +91,10 @@ fn next_section(records: &[Record], after: u16) -> Option<u16>
     requires { ⌜ after ≤ 9999 ⌝ }
     ensures { λ r. ⌜ NextSection (map says (now (records .entry))) after r ⌝ }
 {
-    let Some(key) = next_key(records, 1_048_576 * after as u64 + 1_048_575) else {
+    let Some(key) = next_key(records, SECTION_KEYS * after as u64 + (SECTION_KEYS - 1)) else {
         return None;
     };
-    Some((key / 1_048_576) as u16)
+    Some((key / SECTION_KEYS) as u16)
 }
 
 // Adds the counts of each section with a record, by section.

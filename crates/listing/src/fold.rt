@@ -2,17 +2,19 @@
 
 ghost use mathlib.Core.Path.{_≡_};
 ghost use mathlib.Core.List.{map};
-ghost use Prim.Native.Nat.{ℕ};
 ghost use Rattle.std.specs.Options.{mapped};
 ghost use Rattle.records.specs.Content.{one};
 ghost use Rattle.records.specs.Meaning.{says, versionOf};
-ghost use Rattle.listing.specs.Fold.{contentIn, written, keyAbove, lesser, nextKey};
+ghost use Rattle.listing.specs.Fold.{contentIn, At, written, keyAbove, lesser, nextKey};
 use reconcile::greater_cell;
 use reconcile::later_cover;
 use reconcile::uncovered_cell;
 use records::Cell;
 use records::Record;
 use records::Tombstone;
+
+// How many keys a section has: more than it has plots.
+pub(crate) const SECTION_KEYS: u64 = 1_048_576;
 
 // What one record leaves on a plot.
 fn cover_by(record: &Record, section: u16, plot: u32) -> Option<Tombstone>
@@ -28,7 +30,8 @@ fn cover_by(record: &Record, section: u16, plot: u32) -> Option<Tombstone>
 
 // The cell that one record writes at a place.
 fn cell_by(record: &Record, section: u16, plot: u32, field: u8) -> Option<Cell>
-    ensures { λ r. ⌜ mapped versionOf r ≡ one (says (now («record» .entry))) .cell section plot field ⌝ }
+    ensures version { λ r. ⌜ mapped versionOf r ≡ one (says (now («record» .entry))) .cell section plot field ⌝ }
+    ensures place { λ r. ⌜ At section plot field r ⌝ }
 {
     if let Record::Cell(c) = record {
         if section == c.section() && plot == c.plot() && field == c.field() {
@@ -51,7 +54,8 @@ pub fn cover_at(records: &[Record], section: u16, plot: u32) -> Option<Tombstone
 
 // The greatest cell written at a place, covered or not.
 fn written_at(records: &[Record], section: u16, plot: u32, field: u8) -> Option<Cell>
-    ensures { λ r. ⌜ mapped versionOf r ≡ written (map says (now (records .entry))) section plot field ⌝ }
+    ensures version { λ r. ⌜ mapped versionOf r ≡ written (map says (now (records .entry))) section plot field ⌝ }
+    ensures place { λ r. ⌜ At section plot field r ⌝ }
 {
     let mut cell = None;
     for record in records {
@@ -69,14 +73,16 @@ fn cell_under(
     field: u8,
 ) -> Option<Cell>
     requires { ⌜ cover ≡ contentIn (now records) .cover section plot ⌝ }
-    ensures { λ r. ⌜ mapped versionOf r ≡ contentIn (now (records .entry)) .cell section plot field ⌝ }
+    ensures version { λ r. ⌜ mapped versionOf r ≡ contentIn (now (records .entry)) .cell section plot field ⌝ }
+    ensures place { λ r. ⌜ At section plot field r ⌝ }
 {
     uncovered_cell(cover, written_at(records, section, plot, field))
 }
 
 /// The cell at a place.
 pub fn cell_at(records: &[Record], section: u16, plot: u32, field: u8) -> Option<Cell>
-    ensures { λ r. ⌜ mapped versionOf r ≡ contentIn (now (records .entry)) .cell section plot field ⌝ }
+    ensures version { λ r. ⌜ mapped versionOf r ≡ contentIn (now (records .entry)) .cell section plot field ⌝ }
+    ensures place { λ r. ⌜ At section plot field r ⌝ }
 {
     let cover = cover_at(records, section, plot);
     cell_under(cover, records, section, plot, field)
@@ -87,8 +93,8 @@ fn key_by(record: &Record, after: u64) -> Option<u64>
     ensures { λ r. ⌜ r ≡ keyAbove after (says (now («record» .entry))) ⌝ }
 {
     let key = match record {
-        Record::Deletion(d) => 1_048_576 * d.section() as u64,
-        Record::Cell(c) => 1_048_576 * c.section() as u64 + c.plot() as u64,
+        Record::Deletion(d) => SECTION_KEYS * d.section() as u64,
+        Record::Cell(c) => SECTION_KEYS * c.section() as u64 + c.plot() as u64,
     };
     if after < key { Some(key) } else { None }
 }

@@ -10,7 +10,7 @@ use Rattle.std.proofs.shelf.Ways.{tells}
 use Rattle.std.specs.declared.option.Option.{Option}
 use Rattle.std.specs.declared.option.Option.the-variants.{None, Some}
 use Rattle.records.specs.declared.tombstone.Tombstone.{Tombstone}
-use Rattle.records.specs.Content.{Version, tombstoneKey, versionKey, later, greater, covered, uncovered}
+use Rattle.records.specs.Content.{Version, tombstoneKey, versionKey, later, greater, uncovered}
 use Rattle.reconcile.proofs.Orders.{upto-head, upto-below, greatest-none, greatest-same, greatest-cases, greatest-comm, greatest-assoc, greatest-down, greatest-either, GreatestIs}
 use Rattle.reconcile.specs.Laws.{MaximumLaws}
 

@@ -1,12 +1,10 @@
 //! Which of two cells of one place is the greater.
 
 ghost use mathlib.Core.Path.{_≡_};
-ghost use mathlib.Core.List.{List};
-ghost use Prim.Native.Nat.{ℕ};
 ghost use Rattle.std.specs.declared.option.Option.the-variants.{Some};
 ghost use Rattle.records.specs.Order.{upto};
 ghost use Rattle.records.specs.States.{rankOf, dayOf, valueOf};
-ghost use Rattle.records.specs.Content.{versionKey};
+ghost use Rattle.records.specs.Content.{greater as greaterVersion, versionKey};
 ghost use Rattle.records.specs.Meaning.{versionOf, greaterOf};
 use records::Cell;
 use records::State;
@@ -64,7 +62,8 @@ fn cell_upto(a: &Cell, b: &Cell) -> bool
 
 /// The greater of two cells of one place, the second where they hold the same since the same stamp.
 pub fn greater(a: Cell, b: Cell) -> Cell
-    ensures { λ r. ⌜ Some r ≡ greaterOf (Some a) (Some b) ⌝ }
+    ensures cell { λ r. ⌜ Some r ≡ greaterOf (Some a) (Some b) ⌝ }
+    ensures version { λ r. ⌜ Some (versionOf r) ≡ greaterVersion (Some (versionOf a)) (Some (versionOf b)) ⌝ }
 {
     if cell_upto(&a, &b) { b } else { a }
 }

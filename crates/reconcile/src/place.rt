@@ -1,7 +1,6 @@
 //! Reconciling at a plot and at a place.
 
 ghost use mathlib.Core.Path.{_≡_};
-ghost use Prim.Native.Nat.{ℕ};
 ghost use Rattle.std.specs.Options.{mapped};
 ghost use Rattle.records.specs.Content.{later, greater as greaterVersion, uncovered};
 ghost use Rattle.records.specs.Meaning.{versionOf, greaterOf, uncoveredOf};

@@ -1,7 +1,6 @@
 //! Which of two deletions is the later, and what one covers.
 
 ghost use mathlib.Core.Path.{_≡_};
-ghost use Prim.Native.Nat.{ℕ};
 ghost use Rattle.std.specs.declared.option.Option.the-variants.{Some};
 ghost use Rattle.records.specs.Order.{upto};
 ghost use Rattle.records.specs.Content.{covered, one, tombstoneKey};

@@ -1,14 +1,13 @@
 -- Values, cells, deletions and records are known by their fields.
-use mathlib.Core.Path.{_≡_, refl, sym, ap, _∙_}
+use mathlib.Core.Path.{_≡_, ap}
 use mathlib.Core.Bool.{Bool, true, Bool-set}
 use mathlib.Core.HLevel.{isProp→PathP}
 use native.Mathlib.Bridge.{le-prop}
 use native.Mathlib.Nat.{ℕ-set}
-use Prim.Native.Nat.{ℕ, _≤_}
+use Prim.Native.Nat.{_≤_}
 use lib.ListN.{length, drop}
 use Rattle.std.specs.Orderings.{Decides}
 use Rattle.records.specs.declared.value.Value.{Value}
-use Rattle.records.specs.declared.state.State.{State}
 use Rattle.records.specs.declared.deletion.Deletion.{Deletion}
 use Rattle.records.specs.declared.cell.Cell.{Cell}
 use Rattle.records.specs.Zeros.{allZero}

@@ -1,9 +1,9 @@
 -- A record is known by what it says.
 use mathlib.Core.Path.{_≡_, refl, sym, ap, _∙_}
-use mathlib.Core.List.{List, [], _∷_, _++_}
-use Prim.Native.Nat.{ℕ, _+_, _-_, _≤_, _<_}
+use mathlib.Core.List.{_++_}
+use Prim.Native.Nat.{ℕ, _+_, _-_}
 use native.Mathlib.Omega.{arith}
-use lib.ListN.{length, take, drop, replicate}
+use lib.ListN.{length, drop, replicate}
 use Rattle.std.proofs.shelf.Lists.{take-append-drop, length-take-le, length-drop}
 use Rattle.records.specs.declared.value.Value.{Value}
 use Rattle.records.specs.declared.state.State.{State}

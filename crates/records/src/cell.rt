@@ -1,4 +1,4 @@
-ghost use Prim.Native.Nat.{ℕ, _≤_};
+ghost use Prim.Native.Nat.{_≤_};
 ghost use Rattle.records.specs.States.{rankOf, dayOf};
 use crate::state::State;
 use crate::state::StatePartialEq;

@@ -2,7 +2,6 @@
 
 ghost use mathlib.Core.Path.{_≡_};
 ghost use mathlib.Core.Bool.{cond, _&&_};
-ghost use Prim.Native.Nat.{ℕ};
 ghost use Rattle.std.specs.Options.{mapped};
 ghost use Rattle.std.specs.declared.option.Option.the-variants.{Some, None};
 ghost use Rattle.records.specs.States.{bytesOf};
@@ -32,7 +31,10 @@ impl Cell {
     pub fn live(section: u16, plot: u32, field: u8, stamp: u64, value: Value) -> Option<Cell>
         ensures { λ r. ⌜ mapped cellSays r ≡ cond (placeFits section plot field && stampFits stamp) (Some (entry section plot field (live stamp (bytesOf value)))) None ⌝ }
     {
-        if !(place_fits(section, plot, field) && within(1, stamp, LAST_STAMP)) {
+        if !place_fits(section, plot, field) {
+            return None;
+        }
+        if !within(1, stamp, LAST_STAMP) {
             return None;
         }
         let state = State::Live(value);

@@ -1,7 +1,6 @@
 //! The ranges of a record's numbers: all begin at 1.
 
 ghost use mathlib.Core.Path.{_≡_};
-ghost use Prim.Native.Nat.{ℕ};
 ghost use Rattle.records.specs.Ranges.{within as isWithin};
 
 pub const LAST_SECTION: u16 = 9_999;

@@ -1,4 +1,4 @@
-use mathlib.Core.Path.{_≡_, sym, ap}
+use mathlib.Core.Path.{sym, ap}
 use native.Mathlib.Omega.{arith}
 use lib.ListN.{length}
 use Rattle.records.specs.Listed.{listed, free}
@@ -17,7 +17,7 @@ pub add-listed : need.add-listed
 add-listed c =
     let C = contentIn (c .args .records .now) in
     let s = c .args .section in
-    omega (arith, count-fits C s (listed C s) (bare-listed C s) (c .loop-next .plot) (c .loop-next .listed) (c .loop-next .inv .1) (c .from-listed .result) (c .listed-at .result) (c .loop-next .inv .0) (c .from-listed .ensures))
+    omega (arith, count-fits C s (listed C s) (bare-listed C s) (c .loop-next .plot) (c .loop-next .listed) (c .loop-next .inv .1) (c .from-listed .result) (c .listed-at-here .result) (c .loop-next .inv .0) (c .from-listed .ensures))
 
 pub add-free : need.add-free
 add-free c =
@@ -31,7 +31,7 @@ loop-next-again c =
     let s = c .args .section in
     let h = c .in-Some .ensures tt in (
       h .follows .1,
-      count-more C s (listed C s) (bare-listed C s) (c .loop-next .plot) (c .loop-next .listed) (c .loop-next .inv .1) (c .in-Some .next) (c .from-listed .result) (c .listed-at .result) h (c .from-listed .ensures) (c .listed-at .ensures),
+      count-more C s (listed C s) (bare-listed C s) (c .loop-next .plot) (c .loop-next .listed) (c .loop-next .inv .1) (c .in-Some .next) (c .from-listed .result) (c .listed-at-here .result) h (c .from-listed .ensures) (c .listed-at-here .ensures),
       count-more C s (free C s) (bare-free C s) (c .loop-next .plot) (c .loop-next .free) (c .loop-next .inv .2) (c .in-Some .next) (c .from-free .result) (c .free-at .result) h (c .from-free .ensures) (c .free-at .ensures),
     )
 

@@ -1,7 +1,7 @@
 use mathlib.Core.Path.{sym, ap, _∙_}
 use Rattle.std.proofs.shelf.Results.{made-weaker}
 use Rattle.layout.specs.Faults.{refusalOf}
-use Rattle.wording.specs.Words.{lengthText, malformedText, partText, faultText}
+use Rattle.wording.specs.Words.{lengthText, malformedText, faultText}
 use Rattle.wording.proofs.fault.fault_text.Needs as need
 
 pub returns-in-Length : need.returns-in-Length

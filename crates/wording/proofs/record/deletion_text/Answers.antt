@@ -1,4 +1,4 @@
-use mathlib.Core.Path.{ap, _∙_}
+use mathlib.Core.Path.{_∙_}
 use Rattle.std.proofs.shelf.Results.{made-weaker}
 use Rattle.wording.specs.Words.{deletionText}
 use Rattle.wording.proofs.record.deletion_text.Needs as need

@@ -1,4 +1,4 @@
-use mathlib.Core.Path.{sym, ap, _∙_}
+use mathlib.Core.Path.{sym, _∙_}
 use native.Mathlib.Omega.{arith}
 use Rattle.wording.specs.Words.{allPlain}
 use Rattle.wording.proofs.Plains.{plain-stops, plain-goes, plain-ends}
