@@ -3,3 +3,4 @@ pub mod Bytes
 pub mod Places
 pub mod Joins
 pub mod Examples
+pub mod Handed
