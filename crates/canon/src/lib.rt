@@ -1,4 +1,5 @@
 //! Which list of records is the run of a content.
+#![tactic(auto)]
 
 mod laws;
 

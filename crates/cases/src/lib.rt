@@ -1,4 +1,5 @@
 //! Examples that are run: records at both ends of their ranges, records that are reconciled, and runs.
+#![tactic(auto)]
 
 #[cfg(test)]
 mod decoding;

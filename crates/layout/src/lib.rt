@@ -1,4 +1,5 @@
 //! The 48 bytes of a record: which bytes are lawful, what they say, and which bytes say it.
+#![tactic(auto)]
 
 mod bytes;
 mod codec;

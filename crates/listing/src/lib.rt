@@ -1,4 +1,5 @@
 //! What a file of records says: its records one by one, and what they reconcile to.
+#![tactic(auto)]
 
 mod count;
 mod fold;

@@ -1,4 +1,5 @@
 //! Reconciling: which of two records wins, what a deletion covers, and the laws of putting records together.
+#![tactic(auto)]
 
 mod cell;
 mod laws;

@@ -1,4 +1,5 @@
 //! The records of the register, in range by their types, and what they say.
+#![tactic(auto)]
 
 mod cell;
 mod cell_impl;

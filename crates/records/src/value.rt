@@ -1,7 +1,9 @@
-ghost use Rattle.std.specs.Prelude.{◌≡◌, ◌≤◌, true, length, drop, Decides};
-ghost use Rattle.records.specs.Zeros.{all_zero};
+ghost use Rattle.std.specs.Prelude.{◌≡◌, ◌≤◌, true, length, drop, Decides, nat_eq};
+ghost use Rattle.std.specs.Cmp.Lexicographic.{pointwise};
 ghost use Rattle.std.specs.Cmp.Rules.{comparing};
-ghost use Rattle.std.proofs.Common.{rules, arith};
+ghost use Rattle.std.specs.Ordering.{eq_of_both, on};
+ghost use Rattle.std.proofs.Common.{rules};
+ghost use Rattle.records.specs.Zeros.{all_zero};
 
 /// The value of a live cell: 0 to 23 bytes. The bytes behind the value are 0, so equal values are equal structs.
 #[derive(Clone, Copy)]
@@ -14,11 +16,15 @@ pub struct Value {
 }
 
 impl PartialEq for Value {
-    ghost equals = { λ a b r. Decides r (a ≡ b) };
+    ghost eq = { eq_of_both (on (λ v. v.len) nat_eq) (on (λ v. v.bytes) (pointwise nat_eq)) };
 
-    ghost laws = { first_of (Prim.search (comparing, rules), Prim.grind (arith, Self.row.coded.inj)) };
+    ghost laws = { Prim.search (comparing, rules) };
 
-    fn eq(&self, other: &Value) -> bool {
+    // That it tells whether two values are one, and the equation that the trait asks for.
+    fn eq(&self, other: &Value) -> bool
+        ensures same { Decides result (self.now ≡ other.now) }
+        ensures computed { result ≡ eq_of_both (on (λ v. v.len) nat_eq) (on (λ v. v.bytes) (pointwise nat_eq)) self.now other.now }
+    {
         self.len == other.len && self.bytes == other.bytes
     }
 }

@@ -1,4 +1,5 @@
 //! Runs: bytes that are records in order, checked once and then read in place.
+#![tactic(auto)]
 
 mod check;
 mod fault;

@@ -1,5 +1,6 @@
 //! Reads a file of records from standard input and prints, for a person, a line for each record and the plots of each
 //! section that they come to.
+#![tactic(auto)]
 
 use listing::Sheet;
 use std::io::Read;

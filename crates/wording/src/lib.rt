@@ -1,4 +1,5 @@
 //! A sheet in words, for a person.
+#![tactic(auto)]
 
 mod fault;
 mod line;
