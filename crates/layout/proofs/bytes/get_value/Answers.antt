@@ -6,4 +6,4 @@ pub returns : goal.returns
 returns c =
     let b = c.args.b.now in
     let at = c.args.at in
-    c.copy-from-slice.ensures.after ∙ take_all (length b - at) (drop at b) (simp length-drop (omega arith))
+    c.copy_from_slice.ensures.after ∙ take_all (length b - at) (drop at b) (simp length-drop (omega arith))

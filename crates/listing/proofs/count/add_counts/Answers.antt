@@ -16,8 +16,8 @@ pub loop-next-preserved : goal.loop-next-preserved
 loop-next-preserved c =
     let h = c.in-Some.ensures in (
       h.follows.1,
-      section_more (map says c.args.records.now) c.loop-next.section (vec_items c.loop-next.counts) c.loop-next.invariant.1 (vec_items c.push.new.self) c.in-Some.next c.count-section.result c.in-ok-push.ensures.items h c.count-section.ensures,
+      section_more (map says c.args.records.now) c.loop-next.section (vec_items c.loop-next.counts) c.loop-next.invariant.1 (vec_items c.push.new.self) c.in-Some.next c.count_section.result c.in_ok-push.ensures.items h c.count_section.ensures,
     )
 
 pub returns : goal.returns
-returns c = section_all (map says c.args.records.now) c.loop-next.section (vec_items c.loop-next.counts) c.loop-next.invariant.1 c.loop-next.invariant.0 c.in-default.ensures
+returns c = section_all (map says c.args.records.now) c.loop-next.section (vec_items c.loop-next.counts) c.loop-next.invariant.1 c.loop-next.invariant.0 c.in_default.ensures

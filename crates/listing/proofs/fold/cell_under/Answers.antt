@@ -8,8 +8,8 @@ use Rattle.listing.proofs.fold.cell_under.Goals as goal
 pub returns : goal.returns
 returns c = record {
   version =
-      c.uncovered-cell.ensures.version
-      ∙ (λ i. uncovered (c.requires i) (c.written-at.ensures.version i))
+      c.uncovered_cell.ensures.version
+      ∙ (λ i. uncovered (c.requires i) (c.written_at.ensures.version i))
       ∙ sym (cell_is (map says c.args.records.now) c.args.section c.args.plot c.args.field);
-  place = at_uncovered c.args.section c.args.plot c.args.field c.args.cover c.written-at.result c.uncovered-cell.result c.uncovered-cell.ensures.cell c.written-at.ensures.place;
+  place = at_uncovered c.args.section c.args.plot c.args.field c.args.cover c.written_at.result c.uncovered_cell.result c.uncovered_cell.ensures.cell c.written_at.ensures.place;
 }

@@ -6,7 +6,7 @@ use Rattle.listing.proofs.fold.cover_at.Goals as goal
 
 pub loop-record-preserved : goal.loop-record-preserved
 loop-record-preserved c =
-    c.later-cover-cover.ensures ∙ ap (later c.loop-record.cover) c.cover-by.ensures
+    c.later_cover-cover.ensures ∙ ap (later c.loop-record.cover) c.cover_by.ensures
     ∙ fold_more later _ later_together (λ m. (one m).cover c.args.section c.args.plot) c.args.records.now c.loop-record.record-index c.record-item.result c.loop-record.cover (omega arith) c.record-item.is c.loop-record.invariant
 
 pub returns : goal.returns

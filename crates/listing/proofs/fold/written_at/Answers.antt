@@ -8,9 +8,9 @@ use Rattle.listing.proofs.fold.written_at.Goals as goal
 
 pub loop-record-preserved : goal.loop-record-preserved
 loop-record-preserved c = (
-  c.greater-cell-cell.ensures.version ∙ ap (greater (option_map version_of c.loop-record.cell)) c.cell-by.ensures.version
+  c.greater_cell-cell.ensures.version ∙ ap (greater (option_map version_of c.loop-record.cell)) c.cell_by.ensures.version
       ∙ fold_more greater _ greater_together (λ m. (one m).cell c.args.section c.args.plot c.args.field) c.args.records.now c.loop-record.record-index c.record-item.result (option_map version_of c.loop-record.cell) (omega arith) c.record-item.is c.loop-record.invariant.0,
-  at_greater c.args.section c.args.plot c.args.field c.loop-record.cell c.cell-by.result c.greater-cell-cell.result c.greater-cell-cell.ensures.cell c.loop-record.invariant.1 c.cell-by.ensures.place,
+  at_greater c.args.section c.args.plot c.args.field c.loop-record.cell c.cell_by.result c.greater_cell-cell.result c.greater_cell-cell.ensures.cell c.loop-record.invariant.1 c.cell_by.ensures.place,
 )
 
 pub returns : goal.returns

@@ -9,8 +9,8 @@ loop-line-preserved c =
     let i = c.loop-line.line-index in
     let done = vec_items c.loop-line.records in
     elim c.match-line.branch [
-      | in-Ok+in-ok-push w ↦ record_more ls i done c.loop-line.invariant (vec_items c.match-line.records) c.line-item.result w.in-Ok.record c.loop-line-test.true c.line-item.is w.in-Ok.is (ap vec_items w.records-is ∙ w.in-ok-push.ensures.items)
-      | in-default w ↦ fault_more ls i done c.loop-line.invariant (vec_items c.match-line.records) c.line-item.result c.loop-line-test.true c.line-item.is w.in-default.not-Ok (ap vec_items w.records-is)
+      | in-Ok+in-ok-push w ↦ record_more ls i done c.loop-line.invariant (vec_items c.match-line.records) c.line-item.result w.in-Ok.record c.loop-line-test.true c.line-item.is w.in-Ok.is (ap vec_items w.records-is ∙ w.in_ok-push.ensures.items)
+      | in-default w ↦ fault_more ls i done c.loop-line.invariant (vec_items c.match-line.records) c.line-item.result c.loop-line-test.true c.line-item.is w.in_default.not-Ok (ap vec_items w.records-is)
     ]
 
 pub returns : goal.returns

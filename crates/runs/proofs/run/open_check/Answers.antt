@@ -7,4 +7,4 @@ pub returns-then-bytes-ne0 : goal.returns-then-bytes-ne0
 returns-then-bytes-ne0 c = record { fault = sym (length_fault c.args.bytes.now (λ e. omega arith)); means = λ e. omega arith }
 
 pub returns : goal.returns
-returns c = record { fault = c.check.ensures; means = means c.args.bytes.now c.check.result (under_from c.args.bytes.now (λ i. omega (arith, c.type-inv.bytes i))) c.check.ensures }
+returns c = record { fault = c.check.ensures; means = means c.args.bytes.now c.check.result (under_from c.args.bytes.now (λ i. omega (arith, c.type_inv.bytes i))) c.check.ensures }

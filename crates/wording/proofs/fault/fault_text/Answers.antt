@@ -7,13 +7,13 @@ use Rattle.wording.proofs.fault.fault_text.Goals as goal
 pub returns-in-Length : goal.returns-in-Length
 returns-in-Length c =
     let is = c.in-Length.is in
-    IfOk-weaker c.length-line.result _ _
+    IfOk-weaker c.length_line.result _ _
     (λ s e. e ∙ ap length_text (c.refusal-refusal.ensures ∙ ap refusal_of is) ∙ ap fault_text (sym is))
-    c.length-line.ensures
+    c.length_line.ensures
 
 pub returns-in-Malformed : goal.returns-in-Malformed
 returns-in-Malformed c =
     let is = c.in-Malformed.is in
-    IfOk-weaker c.malformed-line.result _ _
-    (λ s e. e ∙ (λ i. malformed_text ((c.refusal-refusal.ensures ∙ ap refusal_of is) i) (c.part-name.ensures i)) ∙ ap fault_text (sym is))
-    c.malformed-line.ensures
+    IfOk-weaker c.malformed_line.result _ _
+    (λ s e. e ∙ (λ i. malformed_text ((c.refusal-refusal.ensures ∙ ap refusal_of is) i) (c.part_name.ensures i)) ∙ ap fault_text (sym is))
+    c.malformed_line.ensures

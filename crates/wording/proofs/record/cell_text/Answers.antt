@@ -7,10 +7,10 @@ use Rattle.wording.proofs.record.cell_text.Goals as goal
 pub returns : goal.returns
 returns c =
     let held = c.state-held.ensures in
-    IfOk-weaker c.cell-line.result _ _
+    IfOk-weaker c.cell_line.result _ _
     (λ s e. e ∙ (λ i. cell_text
-    ((c.kind-name.ensures ∙ ap (λ x. kind_text (rank_of x)) held) i)
-    ((c.as-str.ensures.value ∙ c.in-ok-place.ensures) i)
+    ((c.kind_name.ensures ∙ ap (λ x. kind_text (rank_of x)) held) i)
+    ((c.as_str.ensures.value ∙ c.in_ok-place.ensures) i)
     (c.stamp.ensures i)
-    ((c.as-str-2.ensures.value ∙ c.in-ok-state.ensures ∙ ap (λ x. state_text (rank_of x) (day_of x) (value_of x)) held) i)))
-    c.cell-line.ensures
+    ((c.as_str-2.ensures.value ∙ c.in_ok-state.ensures ∙ ap (λ x. state_text (rank_of x) (day_of x) (value_of x)) held) i)))
+    c.cell_line.ensures

@@ -5,6 +5,6 @@ use Rattle.wording.proofs.record.deletion_text.Goals as goal
 
 pub returns : goal.returns
 returns c =
-    IfOk-weaker c.deletion-line.result _ _
-    (λ s e. e ∙ (λ i. deletion_text ((c.as-str.ensures.value ∙ c.in-ok-plots.ensures) i) (c.tombstone.ensures i)))
-    c.deletion-line.ensures
+    IfOk-weaker c.deletion_line.result _ _
+    (λ s e. e ∙ (λ i. deletion_text ((c.as_str.ensures.value ∙ c.in_ok-plots.ensures) i) (c.tombstone.ensures i)))
+    c.deletion_line.ensures

@@ -5,6 +5,6 @@ use Rattle.wording.proofs.record.live_text.Goals as goal
 
 pub returns : goal.returns
 returns c =
-    IfOk-weaker c.value-line.result _ _
-    (λ s e. e ∙ ap (λ x. codes "value " ++ x) (c.as-str.ensures.value ∙ c.in-ok-text.ensures ∙ ap value_text c.bytes.ensures))
-    c.value-line.ensures
+    IfOk-weaker c.value_line.result _ _
+    (λ s e. e ∙ ap (λ x. codes "value " ++ x) (c.as_str.ensures.value ∙ c.in_ok-text.ensures ∙ ap value_text c.bytes.ensures))
+    c.value_line.ensures

@@ -4,5 +4,5 @@ use Rattle.runs.proofs.key.Key.read.Goals as goal
 
 pub returns : goal.returns
 returns c =
-    key_is c.args.b.now c.from-be-bytes.result _ c.from-be-bytes-2.result c.requires
-    (omega (arith, c.from-be-bytes.ensures)) c.class-of.ensures (omega (arith, c.from-be-bytes-2.ensures))
+    key_is c.args.b.now c.from_be_bytes.result _ c.from_be_bytes-2.result c.requires
+    (omega (arith, c.from_be_bytes.ensures)) c.class_of.ensures (omega (arith, c.from_be_bytes-2.ensures))
