@@ -221,7 +221,7 @@ fn a_run_of_1_024_records(rt: HostRuntime) -> Result<(), Fail> {
         return Err(Fail::new("no last record"));
     };
     assert_eq!(rt; last.index(), 1_023);
-    assert!(rt; last.bytes() == &cell(32, 31, 1, 5));
+    assert!(rt; last.bytes() == cell(32, 31, 1, 5).as_slice());
     assert!(rt; encode(&last.record()) == cell(32, 31, 1, 5));
     Ok(())
 }
