@@ -3,7 +3,7 @@ use Rattle.std.proofs.Common.{◌≡◌, ◌+◌, ◌<◌, ◌≤◌, ◌⊎◌,
 use mathlib.Core.List.{Memᴰ}
 use Rattle.std.proofs.lemmas.Bool.Decides.{nat_tests}
 use Rattle.std.proofs.lemmas.Bool.{cases_lt}
-use Rattle.std.specs.List.{AllByRecursion as All}
+use Rattle.std.specs.List.{AllByRecursion}
 use Rattle.records.specs.Content.{Content, Mutation, deletion, entry, content_of, uncovered, Settled}
 use Rattle.canon.specs.Spans.{Span, Held, Canonical}
 use Rattle.canon.proofs.Pairs.{Ascends, Apart, Before, Pairs, Ascending, Proper, ascending-says, ascending_holds}
@@ -17,11 +17,11 @@ run_ascends : (xs : List Mutation) → Pairs xs → Ascending xs
 run_ascends [] h = tt
 run_ascends (x ∷ xs) h = (go xs h.0, run_ascends xs h.1)
   where
-    go : (ys : List Mutation) → All (Before x) ys → All (Ascends x) ys
+    go : (ys : List Mutation) → AllByRecursion (Before x) ys → AllByRecursion (Ascends x) ys
     go [] a = tt
     go (y ∷ ys) a = (a.0.0, go ys a.1)
 
-pub run_canonical : (xs : List Mutation) → All Proper xs → Pairs xs → Canonical xs
+pub run_canonical : (xs : List Mutation) → AllByRecursion Proper xs → Pairs xs → Canonical xs
 run_canonical xs g h = record { in_order = ascending_holds xs (run_ascends xs h); held = λ r m. member_held xs r h g m; whole = λ r k. held_member xs r h g k }
 
 held_apart : (C : Content) (x y : Mutation) → Settled C → Ascends x y → Held C x → Held C y → Apart x y
@@ -51,7 +51,7 @@ pub held_run : (C : Content) → Settled C → (ys : List Mutation) → Ascendin
 held_run C st [] a m = tt
 held_run C st (y ∷ ys) a m = (beside y ys (m y (Memᴰ.head refl)) a.0 (λ r i. m r (Memᴰ.tail i)), held_run C st ys a.1 (λ r i. m r (Memᴰ.tail i)))
   where
-    beside : (x : Mutation) (zs : List Mutation) → Held C x → All (Ascends x) zs → ((r : Mutation) → Memᴰ r zs → Held C r) → All (Before x) zs
+    beside : (x : Mutation) (zs : List Mutation) → Held C x → AllByRecursion (Ascends x) zs → ((r : Mutation) → Memᴰ r zs → Held C r) → AllByRecursion (Before x) zs
     beside x [] k a m = tt
     beside x (z ∷ zs) k a m = ((a.0, held_apart C x z st a.0 k (m z (Memᴰ.head refl))), beside x zs k a.1 (λ r i. m r (Memᴰ.tail i)))
 

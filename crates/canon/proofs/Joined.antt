@@ -2,13 +2,13 @@
 use Rattle.std.proofs.Common.{◌≡◌, ℕ, zero, suc, ◌+◌, ◌<◌, ◌≤◌, ◌⊎◌, List, [], ◌∷◌, ◌++◌, sym, subst, inl, inr, arith}
 use mathlib.Core.List.Memᴰ
 use mathlib.Core.List.{Memᴰ}
-use Rattle.std.specs.List.{range_with_len, flat_map, AllByRecursion as All}
+use Rattle.std.specs.List.{range_with_len, flat_map, AllByRecursion}
 use Rattle.std.proofs.ByRecursion.{All-append, All-weaker}
 use Rattle.std.proofs.lemmas.Bool.{cases_eq}
 use Rattle.records.specs.Content.{Mutation}
 use Rattle.canon.proofs.Pairs.{Ascends, Ascending}
 
-pub all_joined : {X : Type 0} (P : X → Type 0) (f : ℕ → List X) (k n : ℕ) → ((j : ℕ) → k ≤ j → j < k + n → All P (f j)) → All P (flat_map f (range_with_len k n))
+pub all_joined : {X : Type 0} (P : X → Type 0) (f : ℕ → List X) (k n : ℕ) → ((j : ℕ) → k ≤ j → j < k + n → AllByRecursion P (f j)) → AllByRecursion P (flat_map f (range_with_len k n))
 all_joined P f k zero h = tt
 all_joined P f k (suc n) h = All-append P (f k) (flat_map f (range_with_len (k + 1) n)) (h k (omega arith) (omega arith)) (all_joined P f (k + 1) n (λ j a b. h j (omega arith) (omega arith)))
 
@@ -34,14 +34,14 @@ member_joined {x = x} f k (suc n) j a b m = go (cases_eq k j) (member_joined f (
 
 -- ---- ascending
 
-pub ascending-append : (xs ys : List Mutation) → Ascending xs → Ascending ys → All (λ x. All (Ascends x) ys) xs → Ascending (xs ++ ys)
+pub ascending-append : (xs ys : List Mutation) → Ascending xs → Ascending ys → AllByRecursion (λ x. AllByRecursion (Ascends x) ys) xs → Ascending (xs ++ ys)
 ascending-append [] ys h k c = k
 ascending-append (x ∷ xs) ys h k c = (All-append (Ascends x) xs ys h.0 c.0, ascending-append xs ys h.1 k c.1)
 
 -- At k holds of the records of the k-th place, and those of a later place are greater
-pub ascending_joined : (At : ℕ → Mutation → Type 0) → ((j k : ℕ) (x y : Mutation) → j < k → At j x → At k y → Ascends x y) → (f : ℕ → List Mutation) → ((k : ℕ) → All (At k) (f k)) → ((k : ℕ) → Ascending (f k)) → (k n : ℕ) → Ascending (flat_map f (range_with_len k n))
+pub ascending_joined : (At : ℕ → Mutation → Type 0) → ((j k : ℕ) (x y : Mutation) → j < k → At j x → At k y → Ascends x y) → (f : ℕ → List Mutation) → ((k : ℕ) → AllByRecursion (At k) (f k)) → ((k : ℕ) → Ascending (f k)) → (k n : ℕ) → Ascending (flat_map f (range_with_len k n))
 ascending_joined At asc f at h k zero = tt
 ascending_joined At asc f at h k (suc n) =
     ascending-append (f k) (flat_map f (range_with_len (k + 1) n)) (h k) (ascending_joined At asc f at h (k + 1) n)
-    (All-weaker (At k) (λ x. All (Ascends x) (flat_map f (range_with_len (k + 1) n)))
+    (All-weaker (At k) (λ x. AllByRecursion (Ascends x) (flat_map f (range_with_len (k + 1) n)))
     (λ x i. all_joined (Ascends x) f (k + 1) n (λ j a b. All-weaker (At j) (Ascends x) (λ y. asc k j x y (omega arith) i) (f j) (at j))) (f k) (at k))

@@ -1,7 +1,7 @@
 -- Runs by pairs: what `is_run` says of each two records.
 use Rattle.std.proofs.Common.{◌≡◌, ℕ, ◌+◌, ◌<◌, ◌≤◌, Bool, true, false, cond, not, ◌&&◌, ◌||◌, eqb, ltb, leb, List, [], ◌∷◌, Some, None, sym, refl, ap, ◌∙◌, arith}
 use Rattle.std.proofs.lemmas.Bool.Decides.{nat_tests}
-use Rattle.std.specs.List.{AllByRecursion as All}
+use Rattle.std.specs.List.{AllByRecursion}
 use Rattle.records.specs.declared.tombstone.Tombstone.{Tombstone}
 use Rattle.records.specs.Order.{upto}
 use Rattle.records.specs.Ranges.{in_range}
@@ -24,12 +24,12 @@ Before x y = Ascends x y × Apart x y
 
 abbrev pub Pairs : List Mutation → Type 0
 Pairs [] = Unit {0}
-Pairs (x ∷ xs) = All (Before x) xs × Pairs xs
+Pairs (x ∷ xs) = AllByRecursion (Before x) xs × Pairs xs
 
 -- the keys ascend
 abbrev pub Ascending : List Mutation → Type 0
 Ascending [] = Unit {0}
-Ascending (x ∷ xs) = All (Ascends x) xs × Ascending xs
+Ascending (x ∷ xs) = AllByRecursion (Ascends x) xs × Ascending xs
 
 -- the first plot of a deletion is no greater than its last
 abbrev pub Proper : Mutation → Type 0
@@ -119,11 +119,11 @@ before_holds x y h = both (ascends x y) (apart x y) (ascends_holds x y h.0) (apa
 
 -- ---- of each element
 
-pub all-says : {A : Type 0} (test : A → Bool) (P : A → Type 0) → ((x : A) → test x ≡ true → P x) → (xs : List A) → all test xs ≡ true → All P xs
+pub all-says : {A : Type 0} (test : A → Bool) (P : A → Type 0) → ((x : A) → test x ≡ true → P x) → (xs : List A) → all test xs ≡ true → AllByRecursion P xs
 all-says test P f [] h = tt
 all-says test P f (x ∷ xs) h = (f x (and_left (test x) (all test xs) h), all-says test P f xs (and_right (test x) (all test xs) h))
 
-pub all_holds : {A : Type 0} (test : A → Bool) (P : A → Type 0) → ((x : A) → P x → test x ≡ true) → (xs : List A) → All P xs → all test xs ≡ true
+pub all_holds : {A : Type 0} (test : A → Bool) (P : A → Type 0) → ((x : A) → P x → test x ≡ true) → (xs : List A) → AllByRecursion P xs → all test xs ≡ true
 all_holds test P f [] h = refl
 all_holds test P f (x ∷ xs) h = both (test x) (all test xs) (f x h.0) (all_holds test P f xs h.1)
 
@@ -147,5 +147,5 @@ pub range_proper : (x : Mutation) → in_range x ≡ true → Proper x
 range_proper (deletion s a b t) h = grind (arith, nat_tests)
 range_proper (entry s p f c) h = tt
 
-pub ranges_proper : (xs : List Mutation) → InRange xs → All Proper xs
+pub ranges_proper : (xs : List Mutation) → InRange xs → AllByRecursion Proper xs
 ranges_proper = all-says in_range Proper range_proper

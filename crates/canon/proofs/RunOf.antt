@@ -1,7 +1,7 @@
 -- The run of a sound content is a run of it, and what a test keeps of it is a run.
 use Rattle.std.proofs.Common.{◌≡◌, ℕ, zero, suc, ◌+◌, ◌-◌, ◌/◌, ◌%◌, ◌<◌, ◌≤◌, Bool, true, false, cond, ◌⊎◌, List, [], Some, None, Option, sym, refl, ap, ◌∙◌, subst, inl, inr, arith}
 use mathlib.Core.List.{Memᴰ}
-use Rattle.std.specs.List.{AllByRecursion as All}
+use Rattle.std.specs.List.{AllByRecursion}
 use Rattle.std.proofs.lemmas.Bool.Decides.{nat_tests}
 use Rattle.std.proofs.lemmas.Bool.{cases_lt}
 use Rattle.std.proofs.ByRecursion.{All-append, All-weaker}
@@ -77,28 +77,28 @@ place_section s k (entry s' p f c) h = h.0
 module _ (C : Content) where
   -- ---- in order
 
-  span_at_lem : (s p : ℕ) → All (AtPlot s p) (span_at C s p) × Ascending (span_at C s p)
+  span_at_lem : (s p : ℕ) → AllByRecursion (AtPlot s p) (span_at C s p) × Ascending (span_at C s p)
   unfolding span_at
   span_at_lem s p = go (same_cover (C.cover s (p - 1)) (C.cover s p)) (C.cover s p)
     where
-      go : (v : Bool) (o : Option Tombstone) → All (AtPlot s p) (cond v [] (span_of s p (stretch (C.cover s) p (999999 - p)) o)) × Ascending (cond v [] (span_of s p (stretch (C.cover s) p (999999 - p)) o))
+      go : (v : Bool) (o : Option Tombstone) → AllByRecursion (AtPlot s p) (cond v [] (span_of s p (stretch (C.cover s) p (999999 - p)) o)) × Ascending (cond v [] (span_of s p (stretch (C.cover s) p (999999 - p)) o))
       go true o = (tt, tt)
       go false None = (tt, tt)
       go false (Some t) = (((refl, refl), tt), (tt, tt))
 
-  cell_at_lem : (s k : ℕ) → All (AtPlace s k) (cell_at C s k) × Ascending (cell_at C s k)
+  cell_at_lem : (s k : ℕ) → AllByRecursion (AtPlace s k) (cell_at C s k) × Ascending (cell_at C s k)
   unfolding cell_at
   cell_at_lem s k = go (C.cell s (k / 256) (k % 256))
     where
-      go : (o : Option Version) → All (AtPlace s k) (cell_of s (k / 256) (k % 256) o) × Ascending (cell_of s (k / 256) (k % 256) o)
+      go : (o : Option Version) → AllByRecursion (AtPlace s k) (cell_of s (k / 256) (k % 256) o) × Ascending (cell_of s (k / 256) (k % 256) o)
       go None = (tt, tt)
       go (Some c) = (((refl, omega arith, omega arith), tt), (tt, tt))
 
-  spans_all : (P : Mutation → Type 0) (s p : ℕ) → 1 ≤ p → ((j : ℕ) → 1 ≤ j → j ≤ 999999 → All P (span_at C s j)) → All P (spans_from C s p)
+  spans_all : (P : Mutation → Type 0) (s p : ℕ) → 1 ≤ p → ((j : ℕ) → 1 ≤ j → j ≤ 999999 → AllByRecursion P (span_at C s j)) → AllByRecursion P (spans_from C s p)
   unfolding spans_from
   spans_all P s p l h = all_joined P (span_at C s) p (1000000 - p) (λ j a b. h j (omega arith) (omega arith))
 
-  cells_all : (P : Mutation → Type 0) (s k : ℕ) → ((j : ℕ) → All P (cell_at C s j)) → All P (cells_from C s k)
+  cells_all : (P : Mutation → Type 0) (s k : ℕ) → ((j : ℕ) → AllByRecursion P (cell_at C s j)) → AllByRecursion P (cells_from C s k)
   unfolding cells_from
   cells_all P s k h = all_joined P (cell_at C s) k (256000000 - k) (λ j a b. h j)
 
@@ -110,14 +110,14 @@ module _ (C : Content) where
   unfolding cells_from
   cells_ascend s k = ascending_joined (AtPlace s) (by_place s) (cell_at C s) (λ k. (cell_at_lem s k).0) (λ k. (cell_at_lem s k).1) k (256000000 - k)
 
-  section_at : (s : ℕ) → All (InSection s) (section_run C s)
+  section_at : (s : ℕ) → AllByRecursion (InSection s) (section_run C s)
   section_at s = All-append (InSection s) (spans_from C s 1) (cells_from C s 0)
       (spans_all (InSection s) s 1 (omega arith) (λ j a b. All-weaker (AtPlot s j) (InSection s) (plot_section s j) (span_at C s j) (span_at_lem s j).0))
       (cells_all (InSection s) s 0 (λ j. All-weaker (AtPlace s j) (InSection s) (place_section s j) (cell_at C s j) (cell_at_lem s j).0))
 
   section_ascends : (s : ℕ) → Ascending (section_run C s)
   section_ascends s = ascending-append (spans_from C s 1) (cells_from C s 0) (spans_ascend s 1) (cells_ascend s 0)
-      (spans_all (λ x. All (Ascends x) (cells_from C s 0)) s 1 (omega arith) (λ j a b. All-weaker (AtPlot s j) (λ x. All (Ascends x) (cells_from C s 0))
+      (spans_all (λ x. AllByRecursion (Ascends x) (cells_from C s 0)) s 1 (omega arith) (λ j a b. All-weaker (AtPlot s j) (λ x. AllByRecursion (Ascends x) (cells_from C s 0))
       (λ x i. cells_all (Ascends x) s 0 (λ k. All-weaker (AtPlace s k) (Ascends x) (λ y. by_class s j k x y i) (cell_at C s k) (cell_at_lem s k).0)) (span_at C s j) (span_at_lem s j).0))
 
   run_ascends : (s : ℕ) → Ascending (run_from C s)
@@ -153,14 +153,14 @@ module _ (C : Content) where
         go (inl l) h = absurd (some_none c e (h l))
         go (inr l) h = l
 
-    span_held : (s p : ℕ) → 1 ≤ p → p ≤ 999999 → All (Held C) (span_at C s p)
+    span_held : (s p : ℕ) → 1 ≤ p → p ≤ 999999 → AllByRecursion (Held C) (span_at C s p)
     unfolding span_at
     span_held s p low high = go (same_cover (C.cover s (p - 1)) (C.cover s p)) refl (C.cover s p) refl (stretch_reaches (C.cover s) p (999999 - p))
       where
         e : ℕ
         e = stretch (C.cover s) p (999999 - p)
 
-        go : (v : Bool) → same_cover (C.cover s (p - 1)) (C.cover s p) ≡ v → (o : Option Tombstone) → C.cover s p ≡ o → Reaches (C.cover s) p (999999 - p) e → All (Held C) (cond v [] (span_of s p e o))
+        go : (v : Bool) → same_cover (C.cover s (p - 1)) (C.cover s p) ≡ v → (o : Option Tombstone) → C.cover s p ≡ o → Reaches (C.cover s) p (999999 - p) e → AllByRecursion (Held C) (cond v [] (span_of s p e o))
         go true k o is h = tt
         go false k None is h = tt
         go false k (Some t) is h = (
@@ -173,15 +173,15 @@ module _ (C : Content) where
           tt,
         )
 
-    cell_held : (s k : ℕ) → All (Held C) (cell_at C s k)
+    cell_held : (s k : ℕ) → AllByRecursion (Held C) (cell_at C s k)
     unfolding cell_at
     cell_held s k = go (C.cell s (k / 256) (k % 256)) refl
       where
-        go : (o : Option Version) → C.cell s (k / 256) (k % 256) ≡ o → All (Held C) (cell_of s (k / 256) (k % 256) o)
+        go : (o : Option Version) → C.cell s (k / 256) (k % 256) ≡ o → AllByRecursion (Held C) (cell_of s (k / 256) (k % 256) o)
         go None e = tt
         go (Some c) e = (e, tt)
 
-    pub run_held : (s : ℕ) → All (Held C) (run_from C s)
+    pub run_held : (s : ℕ) → AllByRecursion (Held C) (run_from C s)
     unfolding run_from
     run_held s = all_joined (Held C) (section_run C) s (10000 - s) (λ j a b. All-append (Held C) (spans_from C j 1) (cells_from C j 0) (spans_all (Held C) j 1 (omega arith) (span_held j)) (cells_all (Held C) j 0 (cell_held j)))
 
@@ -247,7 +247,7 @@ module _ (C : Content) where
 
     -- ---- it is a run of the content
 
-    over_none : (xs : List Mutation) → All (Held C) xs → (s p : ℕ) (t : Tombstone) → C.cover s p ≡ None → Over xs s p t → ⊥
+    over_none : (xs : List Mutation) → AllByRecursion (Held C) xs → (s p : ℕ) (t : Tombstone) → C.cover s p ≡ None → Over xs s p t → ⊥
     over_none xs g s p t e k = let (a, b, m, l, r) = k in let h : Span C s a b t = all_member (Held C) xs g m in some_none t (h.same p l r) e
 
     pub run_pairs : Pairs (run_of C)

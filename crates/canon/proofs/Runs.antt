@@ -3,7 +3,7 @@ use Rattle.std.proofs.Common.{◌≡◌, ℕ, ◌+◌, ◌-◌, ◌<◌, ◌≤�
 use mathlib.Core.List.Memᴰ
 use mathlib.Core.List.{Memᴰ}
 use Rattle.std.proofs.lemmas.Bool.Decides.{nat_tests}
-use Rattle.std.specs.List.{AllByRecursion as All}
+use Rattle.std.specs.List.{AllByRecursion}
 use Rattle.records.specs.declared.tombstone.Tombstone.{Tombstone}
 use Rattle.records.specs.Content.{Version, Content, Mutation, deletion, entry, one, content_of, later, greater, covered, uncovered}
 use Rattle.canon.specs.Run.{key_of}
@@ -66,19 +66,19 @@ left_over (entry s' p' f' c') s p f c h = omega arith
 
 -- ---- what a list of records says, with no join: of any list ..
 
-pub no_cover : (s p : ℕ) (xs : List Mutation) → All (λ r. (one r).cover s p ≡ None) xs → (content_of xs).cover s p ≡ None
+pub no_cover : (s p : ℕ) (xs : List Mutation) → AllByRecursion (λ r. (one r).cover s p ≡ None) xs → (content_of xs).cover s p ≡ None
 no_cover s p [] h = refl
 no_cover s p (x ∷ xs) h = ap (λ o. later o ((content_of xs).cover s p)) h.0 ∙ no_cover s p xs h.1
 
-pub no_cell : (s p f : ℕ) (xs : List Mutation) → All (λ r. (one r).cell s p f ≡ None) xs → (content_of xs).cell s p f ≡ None
+pub no_cell : (s p f : ℕ) (xs : List Mutation) → AllByRecursion (λ r. (one r).cell s p f ≡ None) xs → (content_of xs).cell s p f ≡ None
 no_cell s p f [] h = refl
 no_cell s p f (x ∷ xs) h = ap (uncovered ((content_of (x ∷ xs)).cover s p)) (ap (λ o. greater o ((content_of xs).cell s p f)) h.0 ∙ no_cell s p f xs h.1)
 
-all_map : {X : Type 0} {P Q : X → Type 0} → ((x : X) → P x → Q x) → (xs : List X) → All P xs → All Q xs
+all_map : {X : Type 0} {P Q : X → Type 0} → ((x : X) → P x → Q x) → (xs : List X) → AllByRecursion P xs → AllByRecursion Q xs
 all_map f [] h = tt
 all_map f (x ∷ xs) h = (f x h.0, all_map f xs h.1)
 
-pub all_member : {X : Type 0} (P : X → Type 0) {x : X} (xs : List X) → All P xs → Memᴰ x xs → P x
+pub all_member : {X : Type 0} (P : X → Type 0) {x : X} (xs : List X) → AllByRecursion P xs → Memᴰ x xs → P x
 all_member P [] h m = elim m [ ]
 all_member P {x = x} (y ∷ ys) h m = go (Memᴰ.cases_cons m) (all_member P ys h.1)
   where
@@ -94,7 +94,7 @@ run_cover (x ∷ xs) s a b p t h m l r = go (Memᴰ.cases_cons m) (λ k. run_cov
   where
     go : (deletion s a b t ≡ x) ⊎ Memᴰ (deletion s a b t) xs → (Memᴰ (deletion s a b t) xs → (content_of xs).cover s p ≡ Some t) → (content_of (x ∷ xs)).cover s p ≡ Some t
     go (inl e) ih =
-        let after : All (Before (deletion s a b t)) xs = subst (λ y. All (Before y) xs) (sym e) h.0 in
+        let after : AllByRecursion (Before (deletion s a b t)) xs = subst (λ y. AllByRecursion (Before y) xs) (sym e) h.0 in
         ap (λ y. later ((one y).cover s p) ((content_of xs).cover s p)) (sym e)
         ∙ ap (later ((one (deletion s a b t)).cover s p)) (no_cover s p xs (all_map (λ y k. right_off y s a b p t k l r) xs after))
         ∙ later_none ((one (deletion s a b t)).cover s p)
@@ -107,7 +107,7 @@ run_cell (x ∷ xs) s p f c h m = go (Memᴰ.cases_cons m) (run_cell xs s p f c 
   where
     go : (entry s p f c ≡ x) ⊎ Memᴰ (entry s p f c) xs → (Memᴰ (entry s p f c) xs → (content_of xs).cell s p f ≡ Some c) → (content_of (x ∷ xs)).cell s p f ≡ Some c
     go (inl e) ih =
-        let after : All (Before (entry s p f c)) xs = subst (λ y. All (Before y) xs) (sym e) h.0 in
+        let after : AllByRecursion (Before (entry s p f c)) xs = subst (λ y. AllByRecursion (Before y) xs) (sym e) h.0 in
         let bare : (content_of xs).cover s p ≡ None = no_cover s p xs (all_map (λ y k. right_over y s p f c k) xs after) in
         let alone : (content_of xs).cell s p f ≡ None = no_cell s p f xs (all_map (λ y k. right_cell y s p f c k) xs after) in
         ap (λ y. (content_of (y ∷ xs)).cell s p f) (sym e)
@@ -217,11 +217,11 @@ one_span C s a b a' b' p t h k l r l' r' =
 
 -- ---- a run has just the records of its content
 
-pub member_held : (xs : List Mutation) (r : Mutation) → Pairs xs → All Proper xs → Memᴰ r xs → Held (content_of xs) r
+pub member_held : (xs : List Mutation) (r : Mutation) → Pairs xs → AllByRecursion Proper xs → Memᴰ r xs → Held (content_of xs) r
 member_held xs (deletion s a b t) h g m = run_span xs s a b t h m (all_member Proper xs g m)
 member_held xs (entry s p f c) h g m = run_cell xs s p f c h m
 
-pub held_member : (xs : List Mutation) (r : Mutation) → Pairs xs → All Proper xs → Held (content_of xs) r → Memᴰ r xs
+pub held_member : (xs : List Mutation) (r : Mutation) → Pairs xs → AllByRecursion Proper xs → Held (content_of xs) r → Memᴰ r xs
 held_member xs (entry s p f c) h g k = cell_found xs s p f c k
 held_member xs (deletion s a b t) h g k =
     let (a', b', m, i, j) = cover_found xs s a t (k.same a (omega arith) k.ordered) in
@@ -246,7 +246,7 @@ same_runs (x ∷ xs) (y ∷ ys) h k m n = go first (same_runs xs ys h.1 k.1)
     first : x ≡ y
     first = heads (Memᴰ.cases_cons (m x (Memᴰ.head refl))) (Memᴰ.cases_cons (n y (Memᴰ.head refl)))
 
-    rest : {u v : Mutation} {us vs : List Mutation} → u ≡ v → All (Before u) us → (r : Mutation) → Memᴰ r us → (r ≡ v) ⊎ Memᴰ r vs → Memᴰ r vs
+    rest : {u v : Mutation} {us vs : List Mutation} → u ≡ v → AllByRecursion (Before u) us → (r : Mutation) → Memᴰ r us → (r ≡ v) ⊎ Memᴰ r vs → Memᴰ r vs
     rest {u} {us = us} e q r i (inl f) = let b : Before r r = subst (λ w. Before w r) (e ∙ sym f) (all_member (Before u) us q i) in absurd (never_itself r r b.0 b.0)
     rest e q r i (inr j) = j
 
@@ -255,7 +255,7 @@ same_runs (x ∷ xs) (y ∷ ys) h k m n = go first (same_runs xs ys h.1 k.1)
         let tails : xs ≡ ys = ih (λ r i. rest e h.0 r i (Memᴰ.cases_cons (m r (Memᴰ.tail i)))) (λ r i. rest (sym e) k.0 r i (Memᴰ.cases_cons (n r (Memᴰ.tail i)))) in
         λ i. e i ∷ tails i
 
-pub one_run : (xs ys : List Mutation) → All Proper xs → All Proper ys → Pairs xs → Pairs ys → content_of xs ≡ content_of ys → xs ≡ ys
+pub one_run : (xs ys : List Mutation) → AllByRecursion Proper xs → AllByRecursion Proper ys → Pairs xs → Pairs ys → content_of xs ≡ content_of ys → xs ≡ ys
 one_run xs ys g g' h h' e =
     same_runs xs ys h h'
     (λ r m. held_member ys r h' g' (subst (λ C. Held C r) e (member_held xs r h g m)))

@@ -1,6 +1,6 @@
 -- The worked examples of reconciling and of spans: one table, and one statement for all of it.
 use Rattle.std.specs.Prelude.{◌≡◌, ℕ, List, [], ◌∷◌, Some, None, codes, Option}
-use Rattle.std.specs.List.{AllByRecursion as All}
+use Rattle.std.specs.List.{AllByRecursion}
 use Rattle.records.specs.Content.{Version, Mutation, deletion, entry, live, cleared, content_of}
 use Rattle.canon.specs.Spans.{run_of}
 
@@ -36,4 +36,4 @@ Holds (reconciled x y c) = ((content_of (x ∷ y ∷ [])).cell 1 1 1 ≡ c) × (
 Holds (spanned x y ss) = (run_of (content_of (x ∷ y ∷ [])) ≡ ss) × (run_of (content_of (y ∷ x ∷ [])) ≡ ss)
 
 abbrev pub ExamplesHold : Type 0
-ExamplesHold = All Holds table
+ExamplesHold = AllByRecursion Holds table

@@ -3,7 +3,7 @@
 ghost use Rattle.std.specs.Prelude.{◌≡◌, ◌≤◌, [], map, IfOk, OnOk};
 ghost use Rattle.records.specs.Content.{is_live};
 ghost use Rattle.records.specs.Meaning.{says};
-ghost use Rattle.records.specs.Listed.{listed as isListed, free as isFree};
+ghost use Rattle.records.specs.Listed.{listed as is_listed, free as is_free};
 ghost use Rattle.listing.specs.Fold.{content_in};
 ghost use Rattle.listing.specs.Count.{plots_of, count_of, counts_of, NextPlot, NextSection};
 
@@ -23,7 +23,7 @@ fn live_at(records: &[Record], section: u16, plot: u32, field: u8) -> bool
 }
 
 fn listed_at(records: &[Record], section: u16, plot: u32) -> bool
-    ensures { result ≡ isListed (content_in records.now) section plot }
+    ensures { result ≡ is_listed (content_in records.now) section plot }
 {
     for field in 1..=LAST_FIELD {
         if live_at(records, section, plot, field) {
@@ -34,8 +34,8 @@ fn listed_at(records: &[Record], section: u16, plot: u32) -> bool
 }
 
 fn free_at(records: &[Record], section: u16, plot: u32, listed: bool) -> bool
-    requires { listed ≡ isListed (content_in records.now) section plot }
-    ensures { result ≡ isFree (content_in records.now) section plot }
+    requires { listed ≡ is_listed (content_in records.now) section plot }
+    ensures { result ≡ is_free (content_in records.now) section plot }
 {
     listed && !live_at(records, section, plot, 1)
 }

@@ -1,6 +1,6 @@
 -- The worked examples of reconciling: one table, and one statement for all of it.
 use Rattle.std.specs.Prelude.{◌≡◌, ℕ, List, [], ◌∷◌, Some, None, codes, Option}
-use Rattle.std.specs.List.{AllByRecursion as All}
+use Rattle.std.specs.List.{AllByRecursion}
 use Rattle.records.specs.Content.{Version, Mutation, deletion, entry, live, cleared, content_of}
 
 pub data Example : Type 0 where
@@ -27,4 +27,4 @@ abbrev pub Holds : Example → Type 0
 Holds (reconciled x y c) = ((content_of (x ∷ y ∷ [])).cell 1 1 1 ≡ c) × ((content_of (y ∷ x ∷ [])).cell 1 1 1 ≡ c)
 
 abbrev pub ExamplesHold : Type 0
-ExamplesHold = All Holds table
+ExamplesHold = AllByRecursion Holds table

@@ -3,7 +3,7 @@
 ghost use Rattle.std.specs.Prelude.{◌≡◌, Some};
 ghost use Rattle.records.specs.Order.{upto};
 ghost use Rattle.records.specs.States.{rank_of, day_of, value_of};
-ghost use Rattle.records.specs.Content.{greater as greaterVersion, version_key};
+ghost use Rattle.records.specs.Content.{greater as greater_version, version_key};
 ghost use Rattle.records.specs.Meaning.{version_of, greater_of};
 
 use records::{Cell, State};
@@ -62,7 +62,7 @@ fn cell_upto(a: &Cell, b: &Cell) -> bool
 /// The greater of two cells of one place, the second where they hold the same since the same stamp.
 pub fn greater(a: Cell, b: Cell) -> Cell
     ensures cell { Some result ≡ greater_of (Some a) (Some b) }
-    ensures version { Some (version_of result) ≡ greaterVersion (Some (version_of a)) (Some (version_of b)) }
+    ensures version { Some (version_of result) ≡ greater_version (Some (version_of a)) (Some (version_of b)) }
 {
     if cell_upto(&a, &b) { b } else { a }
 }

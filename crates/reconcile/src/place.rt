@@ -2,7 +2,7 @@
 
 ghost use Rattle.std.specs.Prelude.{◌≡◌};
 ghost use Rattle.std.specs.Option.{option_map};
-ghost use Rattle.records.specs.Content.{later, greater as greaterVersion, uncovered};
+ghost use Rattle.records.specs.Content.{later, greater as greater_version, uncovered};
 ghost use Rattle.records.specs.Meaning.{version_of, greater_of, uncovered_of};
 
 use crate::cell::greater;
@@ -25,7 +25,7 @@ pub fn later_cover(a: Option<Tombstone>, b: Option<Tombstone>) -> Option<Tombsto
 /// The greater of two cells of one place; none is below all.
 pub fn greater_cell(a: Option<Cell>, b: Option<Cell>) -> Option<Cell>
     ensures cell { result ≡ greater_of a b }
-    ensures version { option_map version_of result ≡ greaterVersion (option_map version_of a) (option_map version_of b) }
+    ensures version { option_map version_of result ≡ greater_version (option_map version_of a) (option_map version_of b) }
 {
     let Some(x) = a else {
         return b;

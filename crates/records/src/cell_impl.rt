@@ -3,7 +3,7 @@
 ghost use Rattle.std.specs.Prelude.{◌≡◌, ◌&&◌, if◌then◌else◌, Some, None};
 ghost use Rattle.std.specs.Option.{option_map};
 ghost use Rattle.records.specs.States.{bytes_of};
-ghost use Rattle.records.specs.Content.{entry, live, cleared as clearedAt, is_live};
+ghost use Rattle.records.specs.Content.{entry, live, cleared as cleared_at, is_live};
 ghost use Rattle.records.specs.Meaning.{cell_says, version_of};
 ghost use Rattle.records.specs.Ranges.{place_fits, stamp_fits, day_fits};
 
@@ -43,7 +43,7 @@ impl Cell {
 
     /// A cell that was cleared, unless a number is out of its range.
     pub fn cleared(section: u16, plot: u32, field: u8, stamp: u64, day: u32) -> Option<Cell>
-        ensures { option_map cell_says result ≡ (if place_fits section plot field && (stamp_fits stamp && day_fits day) then Some (entry section plot field (clearedAt stamp day)) else None) }
+        ensures { option_map cell_says result ≡ (if place_fits section plot field && (stamp_fits stamp && day_fits day) then Some (entry section plot field (cleared_at stamp day)) else None) }
     {
         if !place_fits(section, plot, field) {
             return None;

@@ -1,7 +1,7 @@
 //! The ranges of a record's numbers: all begin at 1.
 
 ghost use Rattle.std.specs.Prelude.{◌≡◌};
-ghost use Rattle.records.specs.Ranges.{within as isWithin};
+ghost use Rattle.records.specs.Ranges.{within as is_within};
 
 pub const LAST_SECTION: u16 = 9_999;
 
@@ -15,7 +15,7 @@ pub const LAST_DAY: u32 = 99_999;
 
 /// Whether a number lies in a range, ends included.
 pub fn within(low: u64, x: u64, high: u64) -> bool
-    ensures { result ≡ isWithin low x high }
+    ensures { result ≡ is_within low x high }
 {
     low <= x && x <= high
 }

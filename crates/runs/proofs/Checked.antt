@@ -4,7 +4,7 @@ use Rattle.std.proofs.lemmas.Bool.Decides.{nat_tests}
 use Rattle.std.proofs.lemmas.Bool.{cases_eq}
 use Rattle.std.proofs.lemmas.List.{take_all}
 use Rattle.std.proofs.ByRecursion.{All-from_get_or, All-get_or}
-use Rattle.std.specs.List.{AllByRecursion as All}
+use Rattle.std.specs.List.{AllByRecursion}
 use Rattle.layout.specs.declared.fault.RecordFault.{RecordFault}
 use Rattle.layout.specs.Layout.{fault_of}
 use Rattle.layout.specs.Pieces.{piece, mutation_at}
@@ -118,11 +118,11 @@ module _ (bs : List ℕ) (d i : ℕ) (run : IsRun (records_to bs i)) (lawful : L
       each : (k : ℕ) → k < length (records_to bs i) → get_or (records_to bs i) k (mutation_at bs 0) ≡ mutation_at bs k
       each k h = records_at bs i k (mutation_at bs 0) (omega (arith, records_long bs i))
 
-      up : Ascends (mutation_at bs (i - 1)) (mutation_at bs i) → All (λ x. ascends x (mutation_at bs i) ≡ true) (records_to bs i)
+      up : Ascends (mutation_at bs (i - 1)) (mutation_at bs i) → AllByRecursion (λ x. ascends x (mutation_at bs i) ≡ true) (records_to bs i)
       up h = All-from_get_or (λ x. ascends x (mutation_at bs i) ≡ true) (records_to bs i) (mutation_at bs 0)
           (λ k n. subst (λ x. ascends x (mutation_at bs i) ≡ true) (sym (each k n)) (ascends_holds (mutation_at bs k) (mutation_at bs i) (up_to_last l h k (omega (arith, records_long bs i)))))
 
-      down : All (λ x. ascends x (mutation_at bs i) ≡ true) (records_to bs i) → ascends (mutation_at bs (i - 1)) (mutation_at bs i) ≡ true
+      down : AllByRecursion (λ x. ascends x (mutation_at bs i) ≡ true) (records_to bs i) → ascends (mutation_at bs (i - 1)) (mutation_at bs i) ≡ true
       down h =
           let n : i - 1 < length (records_to bs i) = omega (arith, records_long bs i) in
           subst (λ x. ascends x (mutation_at bs i) ≡ true) (each (i - 1) n) (All-get_or (λ x. ascends x (mutation_at bs i) ≡ true) (records_to bs i) (i - 1) (mutation_at bs 0) n h)

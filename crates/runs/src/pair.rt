@@ -2,7 +2,7 @@
 
 ghost use Rattle.std.specs.Prelude.{◌≡◌, Decides};
 ghost use Rattle.records.specs.Meaning.{says, deletion_says};
-ghost use Rattle.canon.specs.Run.{ascends as isAscending, apart as isApart};
+ghost use Rattle.canon.specs.Run.{ascends as is_ascending, apart as is_apart};
 ghost use Rattle.canon.specs.Check.{Passed};
 
 use crate::key::{Class, Key};
@@ -11,14 +11,14 @@ use records::{Deletion, Record};
 
 // Whether x has the lesser key.
 pub(crate) fn ascends(x: &Record, y: &Record) -> bool
-    ensures { result ≡ isAscending (says x.now) (says y.now) }
+    ensures { result ≡ is_ascending (says x.now) (says y.now) }
 {
     !Key::of(y).upto(&Key::of(x))
 }
 
 // Whether two deletions, the first with the lesser key, neither overlap nor touch with the same stamp and day.
 fn deletions_apart(x: &Deletion, y: &Deletion) -> bool
-    ensures { result ≡ isApart (deletion_says x.now) (deletion_says y.now) }
+    ensures { result ≡ is_apart (deletion_says x.now) (deletion_says y.now) }
 {
     if x.section() != y.section() {
         return true;
@@ -29,7 +29,7 @@ fn deletions_apart(x: &Deletion, y: &Deletion) -> bool
 
 // Whether x leaves y, which has the greater key, its place.
 pub(crate) fn apart(x: &Record, y: &Record) -> bool
-    ensures { result ≡ isApart (says x.now) (says y.now) }
+    ensures { result ≡ is_apart (says x.now) (says y.now) }
 {
     match x {
         Record::Deletion(d) => match y {
