@@ -2,3 +2,4 @@ pub mod Zeros
 pub mod Ext
 pub mod Says
 pub mod Passing
+pub mod Equal
