@@ -18,7 +18,7 @@ use Rattle.runs.specs.declared.fault.RunFault.TheVariants.{Length, Record, Order
 use Rattle.runs.specs.declared.fault.Disorder.{Disorder}
 use Rattle.runs.specs.declared.fault.Disorder.TheVariants.{Unsorted}
 use Rattle.runs.specs.Records.{records_to}
-use Rattle.runs.specs.Faults.{LawfulTo, clash_of, disorder, fault_by, fault_at, first_of, run_fault}
+use Rattle.runs.specs.Faults.{LawfulTo, clash_of, disorder, fault_by, fault_at, earliest, run_fault}
 use Rattle.runs.specs.Check.{disorder_after, disorder_seen}
 use Rattle.runs.proofs.Pieces.{lawful_range, records_none, records_long, records_at}
 use Rattle.runs.proofs.Faults.{first_start, first_more, first_none, first_some, fault_none}
@@ -41,13 +41,13 @@ module _ (bs : List ℕ) where
       (run_from_order (mutation_at bs) (records_to bs n) (mutation_at bs 0) n (omega (arith, records_long bs n), λ k l. records_at bs n k (mutation_at bs 0) l) h))
 
   -- the first n are a run
-  pub run_so_far : (n : ℕ) → first_of (fault_at bs) n ≡ None → IsRun (records_to bs n)
+  pub run_so_far : (n : ℕ) → earliest (fault_at bs) n ≡ None → IsRun (records_to bs n)
   run_so_far zero h = ap is_run (records_none bs)
   run_so_far (suc n) h =
       let e : n + 1 ≡ suc n = omega arith in
       subst (λ k. IsRun (records_to bs k)) e (fault_none bs n (first_none (fault_at bs) (suc n) n h (omega arith))).1
 
-  pub lawful_so_far : (n : ℕ) → first_of (fault_at bs) n ≡ None → LawfulTo bs n
+  pub lawful_so_far : (n : ℕ) → earliest (fault_at bs) n ≡ None → LawfulTo bs n
   lawful_so_far n h = record { each = λ k l. (fault_none bs k (first_none (fault_at bs) n k h l)).0 }
 
 -- ---- what is seen of a record
@@ -170,7 +170,7 @@ module _ (bs : List ℕ) (d i : ℕ) (run : IsRun (records_to bs i)) (lawful : L
 -- the first i records have no fault, and of those before `over` none can cover the last of them or what follows
 pub record Checked (bs : List ℕ) (over i : ℕ) : Type 0 where
   pub reached : over ≤ i
-  pub faultless : first_of (fault_at bs) i ≡ None
+  pub faultless : earliest (fault_at bs) i ≡ None
   pub behind : (k : ℕ) → k < over → Passed (mutation_at bs k) (mutation_at bs (i - 1))
 
 pub checked_none : (bs : List ℕ) → Checked bs 0 0
@@ -179,9 +179,9 @@ checked_none bs = record { reached = omega arith; faultless = first_start (fault
 pub checked_lawful : (bs : List ℕ) (over i : ℕ) → Checked bs over i → LawfulTo bs i
 checked_lawful bs over i h = lawful_so_far bs i h.faultless
 
-pub run_fault_lem : (bs : List ℕ) (o : Option RunFault) → length bs % 48 ≡ 0 → first_of (fault_at bs) (length bs / 48) ≡ o → run_fault bs ≡ o
+pub run_fault_lem : (bs : List ℕ) (o : Option RunFault) → length bs % 48 ≡ 0 → earliest (fault_at bs) (length bs / 48) ≡ o → run_fault bs ≡ o
 unfolding run_fault
-run_fault_lem bs o e h = let t : eqb (length bs % 48) 0 ≡ true = grind (arith, nat_tests) in ap (λ b. cond b (first_of (fault_at bs) (length bs / 48)) (Some Length)) t ∙ h
+run_fault_lem bs o e h = let t : eqb (length bs % 48) 0 ≡ true = grind (arith, nat_tests) in ap (λ b. cond b (earliest (fault_at bs) (length bs / 48)) (Some Length)) t ∙ h
 
 malformed_at : (bs : List ℕ) (i : ℕ) (f : RecordFault) → fault_of (piece bs i) ≡ Some f → fault_at bs i ≡ Some (Record (record { index = i; fault = f }))
 unfolding fault_at
@@ -207,7 +207,7 @@ module _ (bs : List ℕ) (from i : ℕ) (whole : length bs % 48 ≡ 0) (checked 
 
     pub checked_more : disorder_seen (mutation_at bs) over i ≡ None → Checked bs over (i + 1)
     checked_more h =
-        let on : first_of (fault_at bs) (i + 1) ≡ None = first_more (fault_at bs) i checked.faultless (seen_is None h) in
+        let on : earliest (fault_at bs) (i + 1) ≡ None = first_more (fault_at bs) i checked.faultless (seen_is None h) in
         let order = records_order bs (i + 1) (run_so_far bs (i + 1) on) in
         let e : i ≡ i + 1 - 1 = omega arith in
         record {
@@ -217,4 +217,4 @@ module _ (bs : List ℕ) (from i : ℕ) (whole : length bs % 48 ≡ 0) (checked 
         }
 
 pub checked_all : (bs : List ℕ) (over i : ℕ) → length bs % 48 ≡ 0 → Checked bs over i → i ≡ length bs / 48 → run_fault bs ≡ None
-checked_all bs over i e h n = run_fault_lem bs None e (subst (λ k. first_of (fault_at bs) k ≡ None) n h.faultless)
+checked_all bs over i e h n = run_fault_lem bs None e (subst (λ k. earliest (fault_at bs) k ≡ None) n h.faultless)

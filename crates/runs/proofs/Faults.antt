@@ -6,18 +6,18 @@ use Rattle.layout.specs.Pieces.{piece, mutation_at}
 use Rattle.canon.specs.Run.{is_run, IsRun}
 use Rattle.runs.specs.declared.fault.Disorder.{Disorder}
 use Rattle.runs.specs.Records.{records_to}
-use Rattle.runs.specs.Faults.{fault_by, fault_at, disorder, or_else, first_of}
+use Rattle.runs.specs.Faults.{fault_by, fault_at, disorder, or_else, earliest}
 
 module _ {A : Type 0} (f : ℕ → Option A) where
-  pub first_start : first_of f 0 ≡ None
-  unfolding first_of
+  pub first_start : earliest f 0 ≡ None
+  unfolding earliest
   first_start = refl
 
-  first_suc : (n : ℕ) → first_of f (n + 1) ≡ or_else (first_of f n) (f n)
-  unfolding first_of
+  first_suc : (n : ℕ) → earliest f (n + 1) ≡ or_else (earliest f n) (f n)
+  unfolding earliest
   first_suc n = let e : n + 1 ≡ suc n = omega arith in rw e
 
-  pub first_more : (n : ℕ) → first_of f n ≡ None → f n ≡ None → first_of f (n + 1) ≡ None
+  pub first_more : (n : ℕ) → earliest f n ≡ None → f n ≡ None → earliest f (n + 1) ≡ None
   first_more n h k = first_suc n ∙ ap (λ o. or_else o (f n)) h ∙ k
 
   or_none : (a b : Option A) → or_else a b ≡ None → (a ≡ None) × (b ≡ None)
@@ -25,36 +25,36 @@ module _ {A : Type 0} (f : ℕ → Option A) where
   or_none (Some x) b h = absurd (let z : ◌≡◌ {A = ℕ} 0 1 = cc in omega arith)
 
   -- none of the first n
-  pub first_none : (n k : ℕ) → first_of f n ≡ None → k < n → f k ≡ None
-  unfolding first_of
+  pub first_none : (n k : ℕ) → earliest f n ≡ None → k < n → f k ≡ None
+  unfolding earliest
   first_none zero k h l = absurd (omega arith)
-  first_none (suc n) k h l = go (or_none (first_of f n) (f n) h) (first_none n k)
+  first_none (suc n) k h l = go (or_none (earliest f n) (f n) h) (first_none n k)
     where
-      go : (first_of f n ≡ None) × (f n ≡ None) → (first_of f n ≡ None → k < n → f k ≡ None) → f k ≡ None
+      go : (earliest f n ≡ None) × (f n ≡ None) → (earliest f n ≡ None → k < n → f k ≡ None) → f k ≡ None
       go e ih = grind (arith, e.0, e.1, ih)
 
-  stays : (x : A) (i n : ℕ) → first_of f i ≡ Some x → first_of f (i + n) ≡ Some x
-  stays x i zero h = let e : i + 0 ≡ i = omega arith in ap (first_of f) e ∙ h
+  stays : (x : A) (i n : ℕ) → earliest f i ≡ Some x → earliest f (i + n) ≡ Some x
+  stays x i zero h = let e : i + 0 ≡ i = omega arith in ap (earliest f) e ∙ h
   stays x i (suc n) h =
       let e : i + suc n ≡ i + n + 1 = omega arith in
-      ap (first_of f) e ∙ first_suc (i + n) ∙ ap (λ o. or_else o (f (i + n))) (stays x i n h)
+      ap (earliest f) e ∙ first_suc (i + n) ∙ ap (λ o. or_else o (f (i + n))) (stays x i n h)
 
   -- the i-th is the first
-  pub first_some : (x : A) (i n : ℕ) → first_of f i ≡ None → f i ≡ Some x → i < n → first_of f n ≡ Some x
+  pub first_some : (x : A) (i n : ℕ) → earliest f i ≡ None → f i ≡ Some x → i < n → earliest f n ≡ Some x
   first_some x i n h k l =
       let e : n ≡ i + 1 + (n - (i + 1)) = omega arith in
-      ap (first_of f) e ∙ stays x (i + 1) (n - (i + 1)) (first_suc i ∙ ap (λ o. or_else o (f i)) h ∙ k)
+      ap (earliest f) e ∙ stays x (i + 1) (n - (i + 1)) (first_suc i ∙ ap (λ o. or_else o (f i)) h ∙ k)
 
   -- the first there is, and where
   abbrev pub Found : ℕ → A → Type 0
-  Found n x = (i : ℕ) × (i < n) × (first_of f i ≡ None) × (f i ≡ Some x)
+  Found n x = (i : ℕ) × (i < n) × (earliest f i ≡ None) × (f i ≡ Some x)
 
-  pub first_found : (n : ℕ) (x : A) → first_of f n ≡ Some x → Found n x
-  unfolding first_of
+  pub first_found : (n : ℕ) (x : A) → earliest f n ≡ Some x → Found n x
+  unfolding earliest
   first_found zero x h = absurd (let z : ◌≡◌ {A = ℕ} 0 1 = cc in omega arith)
-  first_found (suc n) x h = go (first_of f n) refl h (first_found n)
+  first_found (suc n) x h = go (earliest f n) refl h (first_found n)
     where
-      go : (o : Option A) → first_of f n ≡ o → or_else o (f n) ≡ Some x → ((y : A) → first_of f n ≡ Some y → Found n y) → Found (suc n) x
+      go : (o : Option A) → earliest f n ≡ o → or_else o (f n) ≡ Some x → ((y : A) → earliest f n ≡ Some y → Found n y) → Found (suc n) x
       go None e k ih = (n, omega arith, e, k)
       go (Some y) e k ih = let (i, l, none, some) = ih y e in (i, omega arith, none, some ∙ k)
 

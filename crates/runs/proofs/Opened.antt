@@ -14,7 +14,7 @@ use Rattle.runs.specs.declared.fault.RunFault.{RunFault}
 use Rattle.runs.specs.declared.fault.RunFault.TheVariants.{Length, Record, Order}
 use Rattle.runs.specs.declared.fault.Disorder.{Disorder}
 use Rattle.runs.specs.Records.{records_to}
-use Rattle.runs.specs.Faults.{LawfulTo, disorder, fault_by, fault_at, first_of, run_fault}
+use Rattle.runs.specs.Faults.{LawfulTo, disorder, fault_by, fault_at, earliest, run_fault}
 use Rattle.runs.specs.Opened.{RunBytes, FaultFrom, FaultOfRun}
 use Rattle.runs.proofs.Pieces.{lawful_range, records_long, records_at}
 use Rattle.runs.proofs.Faults.{first_found}
@@ -30,17 +30,17 @@ ranged_so_far bs n h =
 
 -- by its length
 module _ (bs : List ℕ) (o : Option RunFault) (e : run_fault bs ≡ o) where
-  unfolding-fault : cond (eqb (length bs % 48) 0) (first_of (fault_at bs) (length bs / 48)) (Some Length) ≡ o
+  unfolding-fault : cond (eqb (length bs % 48) 0) (earliest (fault_at bs) (length bs / 48)) (Some Length) ≡ o
   unfolding run_fault
   unfolding-fault = e
 
   -- a fault of the length
   long : eqb (length bs % 48) 0 ≡ false → Some Length ≡ o
-  long h = ap (λ b. cond b (first_of (fault_at bs) (length bs / 48)) (Some Length)) (sym h) ∙ unfolding-fault
+  long h = ap (λ b. cond b (earliest (fault_at bs) (length bs / 48)) (Some Length)) (sym h) ∙ unfolding-fault
 
   -- or of a record
-  first : eqb (length bs % 48) 0 ≡ true → first_of (fault_at bs) (length bs / 48) ≡ o
-  first h = ap (λ b. cond b (first_of (fault_at bs) (length bs / 48)) (Some Length)) (sym h) ∙ unfolding-fault
+  first : eqb (length bs % 48) 0 ≡ true → earliest (fault_at bs) (length bs / 48) ≡ o
+  first h = ap (λ b. cond b (earliest (fault_at bs) (length bs / 48)) (Some Length)) (sym h) ∙ unfolding-fault
 
 run_bytes_lem : (bs : List ℕ) → AllBelowBase 256 bs → run_fault bs ≡ None → RunBytes bs
 run_bytes_lem bs u e = go (eqb (length bs % 48) 0) refl
@@ -58,7 +58,7 @@ run_bytes_lem bs u e = go (eqb (length bs % 48) 0) refl
 -- bytes that are not whole records
 pub length_fault : (bs : List ℕ) → (length bs % 48 ≡ 0 → ⊥) → run_fault bs ≡ Some Length
 unfolding run_fault
-length_fault bs n = let t : eqb (length bs % 48) 0 ≡ false = grind (arith, nat_tests) in ap (λ b. cond b (first_of (fault_at bs) (length bs / 48)) (Some Length)) t
+length_fault bs n = let t : eqb (length bs % 48) 0 ≡ false = grind (arith, nat_tests) in ap (λ b. cond b (earliest (fault_at bs) (length bs / 48)) (Some Length)) t
 
 by_some : (bs : List ℕ) (i : ℕ) (why : Disorder) (f : Option RecordFault) (run : Bool) (x : RunFault) → FaultFrom bs i → fault_of (piece bs i) ≡ f → is_run (records_to bs (i + 1)) ≡ run → fault_by i why f run ≡ Some x → FaultOfRun bs x
 by_some bs i why (Some g) run x from e k h = let is : Record (record { index = i; fault = g }) ≡ x = cc in subst (FaultOfRun bs) is (from, e)

@@ -36,13 +36,13 @@ or_else None b = b
 or_else (Some x) b = Some x
 
 -- the first of n that there is
-unfoldable pub first_of : {A : Type 0} → (ℕ → Option A) → ℕ → Option A
-first_of f zero = None
-first_of f (suc n) = or_else (first_of f n) (f n)
+unfoldable pub earliest : {A : Type 0} → (ℕ → Option A) → ℕ → Option A
+earliest f zero = None
+earliest f (suc n) = or_else (earliest f n) (f n)
 
 -- why bytes are no run: the first faulty record decides
 unfoldable pub run_fault : List ℕ → Option RunFault
-run_fault bs = cond (length bs % 48 == 0) (first_of (fault_at bs) (length bs / 48)) (Some Length)
+run_fault bs = cond (length bs % 48 == 0) (earliest (fault_at bs) (length bs / 48)) (Some Length)
 
 -- 1 length, 3 order and 4 empty of layer 2; a record's own number, layer and byte, with its index
 abbrev pub refusal_of_run : RunFault → Refusal
