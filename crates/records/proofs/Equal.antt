@@ -2,6 +2,7 @@
 use Rattle.std.proofs.Common.{◌≡◌, ◌==◌, Decides, ap}
 use Rattle.std.proofs.lemmas.Bool.Decides.{Decides-eqb, Decides-and, Decides-like}
 use Rattle.std.specs.Cmp.Lexicographic.{bytes_decides}
+use Rattle.records.specs.Values.{value_eq}
 use Rattle.records.specs.declared.value.Value.{Value}
 use Rattle.records.specs.declared.state.State.{State}
 use Rattle.records.specs.declared.state.State.TheVariants.{Live, Cleared}
@@ -9,20 +10,19 @@ use Rattle.records.specs.declared.cell.Cell.{Cell}
 use Rattle.records.specs.declared.deletion.Deletion.{Deletion}
 use Rattle.records.specs.declared.record.Record.{Record}
 use Rattle.records.specs.declared.record.Record.TheVariants as which
-use Rattle.records.specs.contracts.value.ValuePartialEq.TheImpl as value_eq
 use Rattle.records.specs.contracts.state.StatePartialEq.TheImpl as state_eq
 use Rattle.records.specs.contracts.cell.CellPartialEq.TheImpl as cell_eq
 use Rattle.records.specs.contracts.deletion.DeletionPartialEq.TheImpl as deletion_eq
 use Rattle.records.specs.contracts.record.RecordPartialEq.TheImpl as record_eq
 use Rattle.records.proofs.Ext.{value_ext, cell_ext, deletion_ext}
 
-pub value-Decides : (a b : Value) → Decides ((value_eq.ghosts).eq a b) (a ≡ b)
+pub value-Decides : (a b : Value) → Decides (value_eq a b) (a ≡ b)
 value-Decides a b =
-    Decides-like ((value_eq.ghosts).eq a b) (λ h. value_ext a b h.1 h.0) (λ e. (ap (λ v. v.len) e, ap (λ v. v.bytes) e))
+    Decides-like (value_eq a b) (λ h. value_ext a b h.1 h.0) (λ e. (ap (λ v. v.len) e, ap (λ v. v.bytes) e))
     (Decides-and _ _ (Decides-eqb a.len b.len) (bytes_decides a.bytes b.bytes))
 
 pub state-Decides : (a b : State) → Decides ((state_eq.ghosts).eq a b) (a ≡ b)
-state-Decides (Live v) (Live w) = Decides-like ((value_eq.ghosts).eq v w) (ap Live) (λ e. cc) (value-Decides v w)
+state-Decides (Live v) (Live w) = Decides-like (value_eq v w) (ap Live) (λ e. cc) (value-Decides v w)
 state-Decides (Cleared x) (Cleared y) = Decides-like (x == y) (ap Cleared) (λ e. cc) (Decides-eqb x y)
 state-Decides (Live v) (Cleared y) = (λ t. cc, λ e. cc)
 state-Decides (Cleared x) (Live w) = (λ t. cc, λ e. cc)

@@ -1,8 +1,4 @@
-ghost use Rattle.std.specs.Prelude.{◌≡◌, ◌≤◌, true, length, drop, Decides, nat_eq};
-ghost use Rattle.std.specs.Cmp.Lexicographic.{pointwise};
-ghost use Rattle.std.specs.Cmp.Rules.{comparing};
-ghost use Rattle.std.specs.Ordering.{eq_of_both, on};
-ghost use Rattle.std.proofs.Common.{rules};
+ghost use Rattle.std.specs.Prelude.{◌≡◌, ◌≤◌, true, length, drop};
 ghost use Rattle.records.specs.Zeros.{all_zero};
 
 /// The value of a live cell: 0 to 23 bytes. The bytes behind the value are 0, so equal values are equal structs.
@@ -16,14 +12,20 @@ pub struct Value {
 }
 
 impl PartialEq for Value {
-    ghost eq = { eq_of_both (on (λ v. v.len) nat_eq) (on (λ v. v.bytes) (pointwise nat_eq)) };
+    ghost use Rattle.std.specs.Prelude.{◌≡◌, Decides};
+    ghost use Rattle.std.specs.Cmp.Rules.{comparing};
+    ghost use Rattle.std.proofs.Common.{rules};
+    ghost use Rattle.records.specs.Values.{value_eq};
+
+    ghost eq = { value_eq };
 
     ghost laws = { Prim.search (comparing, rules) };
 
-    // That it tells whether two values are one, and the equation that the trait asks for.
+    /// Whether two values are one.
+    #[tactic(auto, using(crate::proofs::Ext::value_told))]
     fn eq(&self, other: &Value) -> bool
         ensures same { Decides result (self.now ≡ other.now) }
-        ensures computed { result ≡ eq_of_both (on (λ v. v.len) nat_eq) (on (λ v. v.bytes) (pointwise nat_eq)) self.now other.now }
+        ensures computed { result ≡ value_eq self.now other.now }
     {
         self.len == other.len && self.bytes == other.bytes
     }
