@@ -71,14 +71,6 @@ next_before x y v (entry s p f c) g h n k l = beyond x y s p f c h n (ascends_tr
 abbrev pub InOrder : (ℕ → Mutation) → ℕ → Type 0
 InOrder R n = (j k : ℕ) → j < k → k < n → Before (R j) (R k)
 
--- d goes on to e
-pub still_behind : (R : ℕ → Mutation) (i d e : ℕ) → d ≤ i → ((k : ℕ) → k < d → Passed (R k) (R (i - 1))) → ((k : ℕ) → d ≤ k → k < e → Passed (R k) (R i)) → (0 < i → Before (R (i - 1)) (R i)) → (k : ℕ) → k < e → Passed (R k) (R i)
-still_behind R i d e h old new last k l = go (cases_lt k d)
-  where
-    go : (k < d) ⊎ (d ≤ k) → Passed (R k) (R i)
-    go (inl a) = passed_on (R k) (R (i - 1)) (R i) (old k a) (last (omega arith)).0
-    go (inr a) = new k a l
-
 module _ (R : ℕ → Mutation) (i d : ℕ) (run : InOrder R i) (proper : (k : ℕ) → k < i → Proper (R k)) (behind : (k : ℕ) → k < d → Passed (R k) (R i)) (stops : d < i → Passed (R d) (R i) → ⊥) (last : 0 < i → Before (R (i - 1)) (R i)) (first : d < i → Before (R d) (R i)) where
   all-before : (k : ℕ) → k < i → Before (R k) (R i)
   all-before k l = go (cases_lt k d) (cases_eq k d) (cases_eq k (i - 1))

@@ -94,10 +94,7 @@ fn bytes_of(case: Case) -> [u8; 48] {
 fn each_row_of_the_layout_at_both_ends(rt: HostRuntime) {
     for case in &TABLE {
         let bytes = bytes_of(*case);
-        let expected = match case.10 {
-            Some(part) => Some(RecordFault::Malformed(part)),
-            None => None,
-        };
+        let expected = case.10.map(RecordFault::Malformed);
         assert!(rt; encode_decoded(&bytes).err() == expected);
         if expected.is_none() {
             assert!(rt; encode_decoded(&bytes).ok() == Some(bytes));

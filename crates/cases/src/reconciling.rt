@@ -1,15 +1,20 @@
 //! The worked examples of reconciling, run in both orders.
 
 use listing::cell_at;
-use records::{Cell, Deletion, Record, Value};
+use records::{Cell, Deletion, Place, Plot, Record, Tombstone, Value};
 use std::process::Abort;
 use std::test::Fail;
 
+const PLACE: Place = Place {
+    plot: Plot {
+        section: 1,
+        number: 1,
+    },
+    field: 1,
+};
+
 fn live(stamp: u64, text: &[u8]) -> Option<Cell> {
-    let Some(value) = Value::new(text) else {
-        return None;
-    };
-    Cell::live(1, 1, 1, stamp, value)
+    Cell::live(PLACE, stamp, Value::new(text)?)
 }
 
 // Two records at section 1, plot 1, field 1 come to the cell there, in either order.
@@ -19,29 +24,19 @@ fn come_to(
     b: Option<Record>,
     cell: Option<Cell>,
 ) -> Result<(), Fail> {
-    let Some(x) = a else {
-        return Err(Fail::new("the first is no record"));
-    };
-    let Some(y) = b else {
-        return Err(Fail::new("the second is no record"));
-    };
-    assert!(rt; cell_at(&[x, y], 1, 1, 1) == cell);
-    assert!(rt; cell_at(&[y, x], 1, 1, 1) == cell);
+    let x = a.ok_or_else(|| Fail::new("the first is no record"))?;
+    let y = b.ok_or_else(|| Fail::new("the second is no record"))?;
+    assert!(rt; cell_at(&[x, y], PLACE) == cell);
+    assert!(rt; cell_at(&[y, x], PLACE) == cell);
     Ok(())
 }
 
 fn written(cell: Option<Cell>) -> Option<Record> {
-    let Some(c) = cell else {
-        return None;
-    };
-    Some(Record::Cell(c))
+    cell.map(Record::Cell)
 }
 
 fn deleted(stamp: u64, day: u32) -> Option<Record> {
-    let Some(d) = Deletion::new(1, 1, 1, stamp, day) else {
-        return None;
-    };
-    Some(Record::Deletion(d))
+    Deletion::new(1, 1, 1, Tombstone { stamp, day }).map(Record::Deletion)
 }
 
 #[test]
@@ -62,7 +57,7 @@ fn the_greater_value_wins(rt: HostRuntime) -> Result<(), Fail> {
 
 #[test]
 fn cleared_beats_live(rt: HostRuntime) -> Result<(), Fail> {
-    let cleared = Cell::cleared(1, 1, 1, 5, 7);
+    let cleared = Cell::cleared(PLACE, 5, 7);
     come_to(&rt, written(live(5, b"a")), written(cleared), cleared)
 }
 

@@ -1,7 +1,7 @@
 //! Files that are runs, files that are none, and what is said of each.
 
 use layout::{Part, RecordFault, Refusal, encode};
-use records::{Cell, Deletion, Record, Value};
+use records::{Cell, Deletion, Place, Plot, Record, Tombstone, Value};
 use runs::{Disorder, FaultAt, Run, RunFault};
 use std::alloc::{AllocError, Global};
 use std::process::Abort;
@@ -13,32 +13,36 @@ type Bytes = [u8; 48];
 // No record: its kind is 0.
 const MALFORMED: Bytes = [0; 48];
 
+fn written(record: Option<Record>) -> Bytes {
+    record.map_or(MALFORMED, |r| encode(&r))
+}
+
 fn deletion(section: u16, first: u32, last: u32, stamp: u64, day: u32) -> Bytes {
-    match Deletion::new(section, first, last, stamp, day) {
-        Some(d) => encode(&Record::Deletion(d)),
-        None => MALFORMED,
-    }
+    let deletion = Deletion::new(section, first, last, Tombstone { stamp, day });
+    written(deletion.map(Record::Deletion))
+}
+
+fn plot(section: u16, number: u32) -> Plot {
+    Plot { section, number }
+}
+
+fn place(section: u16, number: u32, field: u8) -> Place {
+    let plot = plot(section, number);
+    Place { plot, field }
 }
 
 // A live cell with an empty value.
-fn cell(section: u16, plot: u32, field: u8, stamp: u64) -> Bytes {
-    let Some(value) = Value::new(b"") else {
-        return MALFORMED;
-    };
-    match Cell::live(section, plot, field, stamp, value) {
-        Some(c) => encode(&Record::Cell(c)),
-        None => MALFORMED,
-    }
+fn cell(section: u16, number: u32, field: u8, stamp: u64) -> Bytes {
+    let place = place(section, number, field);
+    let cell = Value::new(b"").and_then(|value| Cell::live(place, stamp, value));
+    written(cell.map(Record::Cell))
 }
 
 fn file(heap: Global, records: &[Bytes]) -> Result<Vec<u8>, AllocError> {
-    let mut bytes = Vec::new(heap);
-    for record in records {
-        bytes.extend_from_slice(record)?;
-    }
-    Ok(bytes)
+    records.concat(heap)
 }
 
+// The handle that ends a test gives no memory, so the two go side by side here and below: a struct of both is no plainer.
 fn is_run(rt: &impl Abort, heap: Global, records: &[Bytes]) -> Result<(), Fail> {
     let bytes = file(heap, records)?;
     let run = Run::open(&bytes)?;
@@ -181,22 +185,23 @@ fn the_first_faulty_record_decides(rt: HostRuntime) -> Result<(), Fail> {
     is_refused(&rt, heap, &[y, x, bad], disordered(1, Disorder::Unsorted))
 }
 
-fn refusal(number: u8, layer: u8, index: usize, byte: u8) -> Refusal {
-    Refusal {
-        number,
-        layer,
-        index,
-        byte,
-    }
+// A refusal's number, layer, index and byte.
+fn told(refusal: Refusal) -> (u8, u8, usize, u8) {
+    (
+        refusal.number.into(),
+        refusal.layer.into(),
+        refusal.index,
+        refusal.byte,
+    )
 }
 
 #[test]
 fn refusals(rt: HostRuntime) {
     let order = disordered(6, Disorder::Spans);
-    assert_eq!(rt; RunFault::Length.refusal(), refusal(1, 2, 0, 0));
-    assert_eq!(rt; malformed(5, Part::Stamp).refusal(), refusal(2, 1, 5, 12));
-    assert_eq!(rt; order.refusal(), refusal(3, 2, 6, 0));
-    assert_eq!(rt; RunFault::Empty.refusal(), refusal(4, 2, 0, 0));
+    assert_eq!(rt; told(RunFault::Length.refusal()), (1, 2, 0, 0));
+    assert_eq!(rt; told(malformed(5, Part::Stamp).refusal()), (2, 1, 5, 12));
+    assert_eq!(rt; told(order.refusal()), (3, 2, 6, 0));
+    assert_eq!(rt; told(RunFault::Empty.refusal()), (4, 2, 0, 0));
 }
 
 // In each of 32 sections one deletion and 31 cells.
@@ -217,9 +222,9 @@ fn a_run_of_1_024_records(rt: HostRuntime) -> Result<(), Fail> {
     let run = Run::open(&bytes)?;
     assert_eq!(rt; run.len(), 1_024);
     assert!(rt; run.record(1_024).is_none());
-    let Some(last) = run.record(1_023) else {
-        return Err(Fail::new("no last record"));
-    };
+    let last = run
+        .record(1_023)
+        .ok_or_else(|| Fail::new("no last record"))?;
     assert_eq!(rt; last.index(), 1_023);
     assert!(rt; last.bytes() == cell(32, 31, 1, 5).as_slice());
     assert!(rt; encode(&last.record()) == cell(32, 31, 1, 5));
@@ -227,48 +232,57 @@ fn a_run_of_1_024_records(rt: HostRuntime) -> Result<(), Fail> {
 }
 
 fn plots(deletion: Option<Deletion>) -> Option<(u32, u32)> {
-    let Some(d) = deletion else {
-        return None;
-    };
-    Some((d.first(), d.last()))
-}
-
-fn place(cell: Option<Cell>) -> Option<(u16, u32, u8)> {
-    let Some(c) = cell else {
-        return None;
-    };
-    Some((c.section(), c.plot(), c.field()))
+    deletion.map(|d| (d.first(), d.last()))
 }
 
 #[test]
 fn deletions_looked_up(rt: HostRuntime) -> Result<(), Fail> {
     let bytes = large(rt.alloc())?;
     let run = Run::open(&bytes)?;
-    for plot in [40, 45, 50] {
-        assert_eq!(rt; plots(run.deletion_over(1, plot)), Some((40, 50)));
-        assert_eq!(rt; plots(run.deletion_over(32, plot)), Some((40, 50)));
+    for number in [40, 45, 50] {
+        assert_eq!(rt; plots(run.deletion_over(plot(1, number))), Some((40, 50)));
+        assert_eq!(rt; plots(run.deletion_over(plot(32, number))), Some((40, 50)));
     }
-    for plot in [0, 39, 51, u32::MAX] {
-        assert_eq!(rt; plots(run.deletion_over(7, plot)), None);
+    for number in [0, 39, 51, u32::MAX] {
+        assert_eq!(rt; plots(run.deletion_over(plot(7, number))), None);
     }
-    assert_eq!(rt; plots(run.deletion_over(0, 45)), None);
-    assert_eq!(rt; plots(run.deletion_over(33, 45)), None);
+    assert_eq!(rt; plots(run.deletion_over(plot(0, 45))), None);
+    assert_eq!(rt; plots(run.deletion_over(plot(33, 45))), None);
     Ok(())
+}
+
+fn place_of(cell: Option<Cell>) -> Option<Place> {
+    cell.map(|c| c.place())
 }
 
 #[test]
 fn cells_looked_up(rt: HostRuntime) -> Result<(), Fail> {
     let bytes = large(rt.alloc())?;
     let run = Run::open(&bytes)?;
-    assert_eq!(rt; place(run.cell_at(7, 31, 1)), Some((7, 31, 1)));
-    assert_eq!(rt; place(run.cell_at(32, 31, 1)), Some((32, 31, 1)));
-    assert_eq!(rt; place(run.cell_at(7, 31, 2)), None);
-    assert_eq!(rt; place(run.cell_at(7, 32, 1)), None);
-    assert_eq!(rt; place(run.cell_from(7, 0, 0)), Some((7, 1, 1)));
-    assert_eq!(rt; place(run.cell_from(7, 5, 1)), Some((7, 5, 1)));
-    assert_eq!(rt; place(run.cell_from(7, 5, 2)), Some((7, 6, 1)));
-    assert_eq!(rt; place(run.cell_from(7, 31, 2)), None);
-    assert_eq!(rt; place(run.cell_from(33, 1, 1)), None);
+    assert_eq!(rt;
+        place_of(run.cell_at(place(7, 31, 1))),
+        Some(place(7, 31, 1))
+    );
+    assert_eq!(rt;
+        place_of(run.cell_at(place(32, 31, 1))),
+        Some(place(32, 31, 1))
+    );
+    assert_eq!(rt; place_of(run.cell_at(place(7, 31, 2))), None);
+    assert_eq!(rt; place_of(run.cell_at(place(7, 32, 1))), None);
+    assert_eq!(rt;
+        place_of(run.cell_from(place(7, 0, 0))),
+        Some(place(7, 1, 1))
+    );
+    assert_eq!(rt;
+        place_of(run.cell_from(place(7, 5, 1))),
+        Some(place(7, 5, 1))
+    );
+    assert_eq!(rt;
+        place_of(run.cell_from(place(7, 5, 2))),
+        Some(place(7, 6, 1))
+    );
+    assert_eq!(rt; place_of(run.cell_from(place(7, 31, 2))), None);
+    assert_eq!(rt; place_of(run.cell_from(place(33, 1, 1))), None);
     Ok(())
 }
 

@@ -1,7 +1,8 @@
 -- Numbers in fields of given widths: there and back.
-use Rattle.std.proofs.Common.{◌≡◌, ℕ, zero, suc, ◌+◌, ◌*◌, ◌^◌, ◌<◌, ◌≤◌, List, [], ◌∷◌, ◌++◌, length, get_or, take, drop, sym, refl, ap, ◌∙◌, mod-eq_of_lt, arith}
-use Rattle.std.specs.Int.Digits.{AllBelowBase}
+use Rattle.std.proofs.Common.{◌≡◌, ℕ, ◌+◌, ◌*◌, ◌^◌, ◌<◌, ◌≤◌, List, [], ◌∷◌, ◌++◌, length, take, drop, sym, refl, ap, ◌∙◌, mod-eq_of_lt, arith}
+use Rattle.std.specs.List.{All, AllZip}
 use Rattle.std.proofs.lemmas.List.{take_at, drop_at, take-append-drop, length-drop, length-append, length-take-le, drop-drop, append_assoc}
+use Rattle.std.proofs.lemmas.List.Elements.{All-take, All-drop}
 use Rattle.layout.specs.Numbers.{digits, number_at, laid}
 use Rattle.layout.proofs.Numbers.{be, be_digits, digits_be, length_digits, number_is}
 
@@ -11,24 +12,11 @@ read [] bs = []
 read (w ∷ ws) bs = be (take w bs) ∷ read ws (drop w bs)
 
 abbrev pub Fitting : List ℕ → List ℕ → Type 0
-Fitting [] [] = Unit {0}
-Fitting [] (x ∷ xs) = ⊥
-Fitting (w ∷ ws) [] = ⊥
-Fitting (w ∷ ws) (x ∷ xs) = (x < 2 ^ (8 * w)) × Fitting ws xs
+Fitting ws xs = AllZip (λ w x. x < 2 ^ (8 * w)) ws xs
 
 abbrev pub total : List ℕ → ℕ
 total [] = 0
 total (w ∷ ws) = w + total ws
-
-pub under_take : (bs : List ℕ) (n : ℕ) → AllBelowBase 256 bs → AllBelowBase 256 (take n bs)
-under_take bs zero u = tt
-under_take [] (suc n) u = tt
-under_take (b ∷ bs) (suc n) u = (u.0, under_take bs n u.1)
-
-pub under_drop : (bs : List ℕ) (n : ℕ) → AllBelowBase 256 bs → AllBelowBase 256 (drop n bs)
-under_drop bs zero u = u
-under_drop [] (suc n) u = tt
-under_drop (b ∷ bs) (suc n) u = under_drop bs n u.1
 
 -- the numbers by places
 abbrev pub read_at : ℕ → List ℕ → List ℕ → List ℕ
@@ -56,18 +44,14 @@ read_laid_more [] (x ∷ xs) v f = absurd f
 read_laid_more (w ∷ ws) [] v f = absurd f
 
 -- what was read is written
-pub laid_read_more : (ws bs : List ℕ) → total ws ≤ length bs → AllBelowBase 256 bs → laid ws (read ws bs) ++ drop (total ws) bs ≡ bs
+pub laid_read_more : (ws bs : List ℕ) → total ws ≤ length bs → All (λ b. b < 256) bs → laid ws (read ws bs) ++ drop (total ws) bs ≡ bs
 laid_read_more [] bs l u = refl
 laid_read_more (w ∷ ws) bs l u =
     let n : length (take w bs) ≡ w = length-take-le w bs (omega arith) in
-    let h : digits w (be (take w bs)) ≡ take w bs = ap (λ k. digits k (be (take w bs))) (sym n) ∙ digits_be (take w bs) (under_take bs w u) in
-    let ih : laid ws (read ws (drop w bs)) ++ drop (total ws) (drop w bs) ≡ drop w bs = laid_read_more ws (drop w bs) (simp length-drop (omega arith)) (under_drop bs w u) in
+    let h : digits w (be (take w bs)) ≡ take w bs = ap (λ k. digits k (be (take w bs))) (sym n) ∙ digits_be (take w bs) (All-take (λ b. b < 256) w bs u) in
+    let ih : laid ws (read ws (drop w bs)) ++ drop (total ws) (drop w bs) ≡ drop w bs = laid_read_more ws (drop w bs) (simp length-drop (omega arith)) (All-drop (λ b. b < 256) w bs u) in
     append_assoc (digits w (be (take w bs))) (laid ws (read ws (drop w bs))) (drop (w + total ws) bs)
     ∙ ap (λ k. k ++ (laid ws (read ws (drop w bs)) ++ drop (w + total ws) bs)) h
     ∙ ap (λ k. take w bs ++ (laid ws (read ws (drop w bs)) ++ k)) (sym (drop-drop (total ws) w bs))
     ∙ ap (λ k. take w bs ++ k) ih
     ∙ take-append-drop w bs
-
-pub under_from : (bs : List ℕ) → ((i : ℕ) → get_or bs i 0 < 256) → AllBelowBase 256 bs
-under_from [] h = tt
-under_from (b ∷ bs) h = (h 0, under_from bs (λ i. h (suc i)))

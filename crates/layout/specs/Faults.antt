@@ -4,6 +4,10 @@ use Rattle.layout.specs.declared.part.Part.{Part}
 use Rattle.layout.specs.declared.part.Part.TheVariants.{Kind, Field, Section, FirstPlot, LastPlot, Stamp, Day, ValueLength, Value}
 use Rattle.layout.specs.declared.fault.RecordFault.{RecordFault}
 use Rattle.layout.specs.declared.fault.RecordFault.TheVariants.{Length, Malformed}
+use Rattle.layout.specs.declared.fault.Reason.{Reason}
+use Rattle.layout.specs.declared.fault.Reason.TheVariants as reason
+use Rattle.layout.specs.declared.fault.Layer.{Layer}
+use Rattle.layout.specs.declared.fault.Layer.TheVariants as layer
 use Rattle.layout.specs.declared.fault.Refusal.{Refusal}
 
 -- the first byte of each row of the layout's table
@@ -18,7 +22,19 @@ first_byte Day = 20
 first_byte ValueLength = 24
 first_byte Value = 25
 
+-- the numbers of the table of refusals
+abbrev pub number_of : Reason → ℕ
+number_of reason.Length = 1
+number_of reason.Malformed = 2
+number_of reason.Order = 3
+number_of reason.Empty = 4
+
+-- the numbers of the layers
+abbrev pub number_of_layer : Layer → ℕ
+number_of_layer layer.Record = 1
+number_of_layer layer.Run = 2
+
 -- 1 length, 2 malformed, both of layer 1
 abbrev pub refusal_of : RecordFault → Refusal
-refusal_of Length = record { number = 1; layer = 1; index = 0; byte = 0 }
-refusal_of (Malformed part) = record { number = 2; layer = 1; index = 0; byte = first_byte part }
+refusal_of Length = record { number = reason.Length; layer = layer.Record; index = 0; byte = 0 }
+refusal_of (Malformed part) = record { number = reason.Malformed; layer = layer.Record; index = 0; byte = first_byte part }

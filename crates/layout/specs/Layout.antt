@@ -1,5 +1,5 @@
 -- The 48 bytes of a record: the numbers that they write, which of them are lawful, and what they say.
-use Rattle.std.specs.Prelude.{ℕ, ◌+◌, ◌-◌, Bool, cond, List, [], ◌∷◌, ◌++◌, length, take, drop, replicate, Some, None, Ok, Err, Option, Result, ◌==◌, nat_le, slice_index}
+use Rattle.std.specs.Prelude.{◌≡◌, ℕ, ◌+◌, ◌-◌, Bool, cond, List, [], ◌∷◌, ◌++◌, length, take, drop, replicate, Some, None, Ok, Err, Option, Result, ◌==◌, nat_le, slice_index}
 use Rattle.records.specs.declared.record.Record.{Record}
 use Rattle.records.specs.Zeros.{all_zero}
 use Rattle.records.specs.Ranges.{within, section_fits, plot_fits, last_fits, field_fits, stamp_fits, day_fits}
@@ -43,29 +43,29 @@ pub record Rule : Type 0 where
   pub part : Part
   pub holds : Bool
 
-abbrev pub field_rule : Row → Bool
-field_rule r = cond (r.kind == 1) (r.field == 0) (field_fits r.field)
+abbrev pub field_rule : ℕ → ℕ → Bool
+field_rule kind field = cond (kind == 1) (field == 0) (field_fits field)
 
-abbrev pub last_rule : Row → Bool
-last_rule r = cond (r.kind == 1) (last_fits r.first r.last) (r.last == r.first)
+abbrev pub last_rule : ℕ → ℕ → ℕ → Bool
+last_rule kind first last = cond (kind == 1) (last_fits first last) (last == first)
 
-abbrev pub day_rule : Row → Bool
-day_rule r = cond (r.kind == 2) (r.day == 0) (day_fits r.day)
+abbrev pub day_rule : ℕ → ℕ → Bool
+day_rule kind day = cond (kind == 2) (day == 0) (day_fits day)
 
-abbrev pub len_rule : Row → Bool
-len_rule r = cond (r.kind == 2) (nat_le r.len 23) (r.len == 0)
+abbrev pub len_rule : ℕ → ℕ → Bool
+len_rule kind len = cond (kind == 2) (nat_le len 23) (len == 0)
 
 -- the layout's table: kind 1 is a deletion, 2 a live cell, 3 a cleared one
 abbrev pub rules : Row → List Rule
 rules r =
     record { part = Kind; holds = within 1 r.kind 3 }
-    ∷ record { part = Field; holds = field_rule r }
+    ∷ record { part = Field; holds = field_rule r.kind r.field }
     ∷ record { part = Section; holds = section_fits r.section }
     ∷ record { part = FirstPlot; holds = plot_fits r.first }
-    ∷ record { part = LastPlot; holds = last_rule r }
+    ∷ record { part = LastPlot; holds = last_rule r.kind r.first r.last }
     ∷ record { part = Stamp; holds = stamp_fits r.stamp }
-    ∷ record { part = Day; holds = day_rule r }
-    ∷ record { part = ValueLength; holds = len_rule r }
+    ∷ record { part = Day; holds = day_rule r.kind r.day }
+    ∷ record { part = ValueLength; holds = len_rule r.kind r.len }
     ∷ record { part = Value; holds = all_zero (drop r.len r.value) }
     ∷ []
 
@@ -117,6 +117,16 @@ row_of (entry s p f c) = record {
   len = length c.value;
   value = c.value ++ replicate (23 - length c.value) 0;
 }
+
+-- a row says this, and is the row that says it
+pub record IsRowOf (m : Mutation) (r : Row) : Type 0 where
+  pub row : r ≡ row_of m
+  pub says : mutation_in r ≡ m
+
+-- bytes write a row, and are the bytes of it
+pub record IsBytesOf (r : Row) (bs : List ℕ) : Type 0 where
+  pub bytes : bs ≡ row_bytes r
+  pub row : row_at bs ≡ r
 
 -- the bytes that say it
 abbrev pub encoded : Mutation → List ℕ

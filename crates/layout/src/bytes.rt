@@ -1,62 +1,24 @@
-//! Numbers in bytes, the highest byte first.
+//! The bytes of a part of a record. A part's number is its first byte, and `as` is the plainest word for it.
 
-ghost use Rattle.std.specs.Prelude.{◌≡◌, ◌+◌, ◌≤◌, length, drop};
-ghost use Rattle.std.proofs.Math.Seq.{paste};
-ghost use Rattle.layout.specs.Numbers.{number_at, digits};
+ghost use Rattle.std.specs.Prelude.{◌≡◌, ◌+◌, ◌≤◌, length, slice_range};
+ghost use Rattle.std.specs.List.{splice};
+ghost use Rattle.layout.specs.Faults.{first_byte};
 
-pub(crate) fn get16(b: &[u8], at: usize) -> u16
-    requires { at + 2 ≤ length b.now }
-    ensures { result ≡ number_at at 2 b.now }
+use crate::part::Part;
+
+// The N bytes of a part.
+pub(crate) fn array_at<const N: usize>(b: &[u8; 48], part: Part) -> [u8; N]
+    requires { first_byte part + N ≤ 48 }
+    ensures { result ≡ slice_range b.now (first_byte part) (first_byte part + N) }
 {
-    u16::from_be_bytes([b[at], b[at + 1]])
+    *b[part as usize..].first_chunk().unwrap()
 }
 
-pub(crate) fn get32(b: &[u8], at: usize) -> u32
-    requires { at + 4 ≤ length b.now }
-    ensures { result ≡ number_at at 4 b.now }
+// Writes a part's bytes.
+pub(crate) fn write(b: &mut [u8; 48], part: Part, bytes: &[u8])
+    requires { first_byte part + length bytes.now ≤ 48 }
+    ensures { b.new ≡ splice b.old (first_byte part) (first_byte part + length bytes.now) bytes.now }
 {
-    u32::from_be_bytes([b[at], b[at + 1], b[at + 2], b[at + 3]])
-}
-
-pub(crate) fn get64(b: &[u8], at: usize) -> u64
-    requires { at + 8 ≤ length b.now }
-    ensures { result ≡ number_at at 8 b.now }
-{
-    u64::from_be_bytes([
-        b[at],
-        b[at + 1],
-        b[at + 2],
-        b[at + 3],
-        b[at + 4],
-        b[at + 5],
-        b[at + 6],
-        b[at + 7],
-    ])
-}
-
-// The 23 bytes from `at` to the end.
-pub(crate) fn get_value(b: &[u8], at: usize) -> [u8; 23]
-    requires { length b.now ≡ at + 23 }
-    ensures { result ≡ drop at b.now }
-{
-    let mut value = [0u8; 23];
-    value.copy_from_slice(&b[at..]);
-    value
-}
-
-// Writes bytes at a place.
-pub(crate) fn put(out: &mut [u8], at: usize, part: &[u8])
-    requires { at + length part.now ≤ length out.old }
-    ensures { out.new ≡ paste out.old at part.now (length part.now) }
-{
-    let end = at + part.len();
-    out[at..end].copy_from_slice(part);
-}
-
-// Writes one byte at a place.
-pub(crate) fn put_byte(out: &mut [u8], at: usize, x: u8)
-    requires { at + 1 ≤ length out.old }
-    ensures { out.new ≡ paste out.old at (digits 1 x) 1 }
-{
-    out[at..at + 1].copy_from_slice(&[x]);
+    let at = part as usize;
+    b[at..at + bytes.len()].copy_from_slice(bytes);
 }

@@ -4,10 +4,13 @@
 mod bytes;
 mod codec;
 mod fault;
+mod kind;
 mod part;
+mod record;
 mod row;
 mod rules;
 
 pub use codec::{decode, decode_encoded, decode_lawful, encode, encode_decoded};
-pub use fault::{RecordFault, Refusal};
+pub use fault::{Layer, Reason, RecordFault, Refusal};
+pub use kind::Kind;
 pub use part::Part;

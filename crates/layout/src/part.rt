@@ -1,5 +1,5 @@
 /// The rows of the layout's table, each numbered by its first byte.
-#[derive(Clone, Copy, PartialEq, Debug)]
+#[derive(Clone, Copy, PartialEq, Eq, Debug)]
 pub enum Part {
     Kind = 0,
     Field = 1,

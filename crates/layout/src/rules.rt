@@ -1,127 +1,83 @@
-//! The layout's table, row by row.
+//! The layout's table, row by row, and rows that break none of it.
 
-ghost use Rattle.std.specs.Prelude.{◌≡◌, ◌≤◌, length, drop, if◌then◌else◌, Some, None};
+ghost use Rattle.std.specs.Prelude.{◌≡◌, None, if◌then◌else◌, Some, IfOk, drop};
 ghost use Rattle.std.specs.Result.{result_err};
 ghost use Rattle.records.specs.Zeros.{all_zero};
+ghost use Rattle.records.specs.Ranges.{section_fits, plot_fits, stamp_fits};
 ghost use Rattle.layout.specs.declared.fault.RecordFault.TheVariants.{Malformed};
-ghost use Rattle.layout.specs.Faults.{refusal_of};
-ghost use Rattle.layout.specs.Layout.{field_rule, last_rule, day_rule, len_rule, rules, first_broken};
+ghost use Rattle.layout.specs.Kinds.{code_of};
+ghost use Rattle.layout.specs.Layout.{rules, first_broken};
 
-use crate::fault::{RecordFault, Refusal};
+use crate::fault::RecordFault;
+use crate::kind::Kind;
 use crate::part::Part;
 use crate::row::Row;
-use records::range::{LAST_DAY, LAST_FIELD, LAST_PLOT, LAST_SECTION, LAST_STAMP, within};
+use records::range::{LAST_PLOT, LAST_SECTION, LAST_STAMP, within};
 
-impl RecordFault {
-    /// Its number, layer and byte.
-    pub fn refusal(&self) -> Refusal
-        ensures { result ≡ refusal_of self.now }
-    {
-        match self {
-            RecordFault::Length => Refusal {
-                number: 1,
-                layer: 1,
-                index: 0,
-                byte: 0,
-            },
-            RecordFault::Malformed(part) => Refusal {
-                number: 2,
-                layer: 1,
-                index: 0,
-                byte: *part as u8,
-            },
-        }
-    }
+/// A row that breaks no rule.
+#[derive(Clone, Copy)]
+pub(crate) struct LawfulRow {
+    pub(crate) row: Row,
+    ghost lawful: { first_broken (rules row) ≡ None },
 }
 
-fn lawful(part: Part, holds: bool) -> Result<(), RecordFault>
+// The fault of a part, unless its rule holds.
+fn rule(part: Part, holds: bool) -> Result<(), RecordFault>
     ensures { result_err result ≡ (if holds then None else Some (Malformed part)) }
 {
-    if holds {
-        Ok(())
-    } else {
-        Err(RecordFault::Malformed(part))
-    }
+    holds.then_some(()).ok_or(RecordFault::Malformed(part))
 }
 
-fn zero_from(bytes: &[u8], at: usize) -> bool
-    requires { at ≤ length bytes.now }
-    ensures { result ≡ all_zero (drop at bytes.now) }
+// One function for each range: with `within` in `try_from` the goals `returns-in_err-rule-3` to `-8` stayed open.
+fn section_fits(section: u16) -> bool
+    ensures { result ≡ section_fits section }
 {
-    for i in at..bytes.len() {
-        if bytes[i] != 0 {
-            return false;
-        }
-    }
-    true
+    within(1, section, LAST_SECTION)
 }
 
-impl Row {
-    fn field_rule(&self) -> bool
-        ensures { result ≡ field_rule self.now }
-    {
-        if self.kind == 1 {
-            self.field == 0
-        } else {
-            within(1, self.field as u64, LAST_FIELD as u64)
-        }
-    }
+fn plot_fits(plot: u32) -> bool
+    ensures { result ≡ plot_fits plot }
+{
+    within(1, plot, LAST_PLOT)
+}
 
-    fn last_rule(&self) -> bool
-        ensures { result ≡ last_rule self.now }
-    {
-        if self.kind == 1 {
-            within(self.first as u64, self.last as u64, LAST_PLOT as u64)
-        } else {
-            self.last == self.first
-        }
-    }
+fn stamp_fits(stamp: u64) -> bool
+    ensures { result ≡ stamp_fits stamp }
+{
+    within(1, stamp, LAST_STAMP)
+}
 
-    fn day_rule(&self) -> bool
-        ensures { result ≡ day_rule self.now }
-    {
-        if self.kind == 2 {
-            self.day == 0
-        } else {
-            within(1, self.day as u64, LAST_DAY as u64)
-        }
-    }
+// Whether the bytes behind a value are 0.
+fn padded(row: &Row) -> bool
+    ensures { result ≡ all_zero (drop row.now.len row.now.value) }
+{
+    row.value.iter().skip(usize::from(row.len)).all(|b| *b == 0)
+}
 
-    fn len_rule(&self) -> bool
-        ensures { result ≡ len_rule self.now }
-    {
-        if self.kind == 2 {
-            self.len <= 23
-        } else {
-            self.len == 0
-        }
-    }
+impl TryFrom<Row> for LawfulRow {
+    type Error = RecordFault;
 
-    fn padded(&self) -> bool
-        requires { self.now.len ≤ 23 }
-        ensures { result ≡ all_zero (drop self.now.len self.now.value) }
-    {
-        zero_from(&self.value, self.len as usize)
-    }
+    ghost try_from_gives = { λ row r.
+        (result_err r ≡ first_broken (rules row)) × IfOk r (λ l. l.row ≡ row) };
 
-    // The first row of the table that does not hold.
-    pub(crate) fn check(&self) -> Result<(), RecordFault>
-        ensures { result_err result ≡ first_broken (rules self.now) }
+    fn try_from(row: Row) -> Result<LawfulRow, RecordFault> {
+        let kind = Kind::try_from(row.kind)?;
+        rule(Part::Field, kind.field_rule(row.field))?;
+        rule(Part::Section, section_fits(row.section))?;
+        rule(Part::FirstPlot, plot_fits(row.first))?;
+        rule(Part::LastPlot, kind.last_rule(row.first, row.last))?;
+        rule(Part::Stamp, stamp_fits(row.stamp))?;
+        rule(Part::Day, kind.day_rule(row.day))?;
+        rule(Part::ValueLength, kind.len_rule(row.len))?;
+        rule(Part::Value, padded(&row))?;
+        Ok(LawfulRow { row })
+    }
+}
+
+impl LawfulRow {
+    pub(crate) fn kind(&self) -> Kind
+        ensures { code_of result ≡ self.now.row.kind }
     {
-        lawful(Part::Kind, within(1, self.kind as u64, 3))?;
-        lawful(Part::Field, self.field_rule())?;
-        lawful(
-            Part::Section,
-            within(1, self.section as u64, LAST_SECTION as u64),
-        )?;
-        lawful(
-            Part::FirstPlot,
-            within(1, self.first as u64, LAST_PLOT as u64),
-        )?;
-        lawful(Part::LastPlot, self.last_rule())?;
-        lawful(Part::Stamp, within(1, self.stamp, LAST_STAMP))?;
-        lawful(Part::Day, self.day_rule())?;
-        lawful(Part::ValueLength, self.len_rule())?;
-        lawful(Part::Value, self.padded())
+        Kind::try_from(self.row.kind).unwrap()
     }
 }

@@ -1,5 +1,3 @@
 pub mod Folds
-pub mod Ats
-pub mod Keys
 pub mod Counts
 pub mod Lines

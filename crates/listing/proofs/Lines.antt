@@ -1,85 +1,46 @@
--- The lines of a file, one after another.
-use Rattle.std.proofs.Common.{◌≡◌, ℕ, suc, ◌+◌, ◌-◌, ◌*◌, ◌/◌, ◌%◌, ◌<◌, ◌≤◌, min, Bool, true, false, leb, List, [], ◌∷◌, ◌++◌, map, length, get_or, take, drop, Ok, Err, Result, sym, refl, ap, ◌∙◌, arith}
-use Rattle.std.proofs.lemmas.Bool.Decides.{nat_tests}
-use Rattle.std.proofs.lemmas.List.{take_more, take_all, map-append, length-drop, append-nil}
+-- The lines of a file, and the records among them.
+use Rattle.std.proofs.Common.{◌≡◌, ℕ, zero, suc, ◌+◌, ◌*◌, ◌/◌, ◌<◌, min, List, [], ◌∷◌, ◌++◌, map, length, take, drop, Ok, Err, Result, sym, refl, ap, subst, ◌∙◌, arith}
+use Rattle.std.specs.List.{filter_map, range_with_len}
+use Rattle.std.specs.Result.{result_ok}
+use Rattle.std.specs.Slice.Iter.{chunks_rest, chunks_size, chunks_steps}
+use Rattle.std.proofs.lemmas.List.{length-append, drop-drop, take_min, drop_min, take_at, drop_at}
+use Rattle.std.proofs.lemmas.Iterator.{YieldsList}
+use Rattle.std.proofs.lemmas.Iterator.Splits.{YieldsList-from_shown_while}
 use Rattle.records.specs.declared.record.Record.{Record}
-use Rattle.records.specs.Content.{Mutation}
 use Rattle.records.specs.Meaning.{says}
 use Rattle.layout.specs.declared.fault.RecordFault.{RecordFault}
-use Rattle.layout.specs.Layout.{decoded, outcome}
-use Rattle.listing.specs.Lines.{piece, decoded_to, well_formed}
+use Rattle.layout.specs.Layout.{outcome}
+use Rattle.layout.specs.Pieces.{piece}
+use Rattle.listing.specs.Lines.{pieces, well_formed}
 
-take_min : (n : ℕ) (xs : List ℕ) → take (min (length xs) n) xs ≡ take n xs
-take_min n xs = go (leb (length xs) n) refl
-  where
-    go : (b : Bool) → leb (length xs) n ≡ b → take (min (length xs) n) xs ≡ take n xs
-    go true h =
-        let l : length xs ≤ n = grind (arith, nat_tests) in
-        take_all (min (length xs) n) xs (omega arith) ∙ sym (take_all n xs l)
-    go false h =
-        let l : n < length xs = grind (arith, nat_tests) in
-        let e : min (length xs) n ≡ n = omega arith in
-        ap (λ k. take k xs) e
+-- the pieces behind the first n bytes
+module _ (bs t : List ℕ) (e : drop 48 bs ≡ t) where
+  piece_behind : (i : ℕ) → piece bs (i + 1) ≡ piece t i
+  unfolding piece
+  piece_behind i = let k : 48 * (i + 1) ≡ 48 + 48 * i = omega arith in ap (take 48) (ap (λ j. drop j bs) k ∙ sym (drop-drop (48 * i) 48 bs) ∙ ap (drop (48 * i)) e)
 
-pub piece_is : (bs : List ℕ) (i k : ℕ) → k ≡ min (length (take (length bs - 48 * i) (drop (48 * i) bs))) 48 → take k (take (length bs - 48 * i) (drop (48 * i) bs)) ≡ piece bs i
+  pieces_behind : (a n : ℕ) → map (piece bs) (range_with_len (a + 1) n) ≡ map (piece t) (range_with_len a n)
+  pieces_behind a zero = refl
+  pieces_behind a (suc n) = rw (piece_behind a, pieces_behind (a + 1) n)
+
+-- the first piece, and those of what is left
+pieces_front : (bs x t : List ℕ) → bs ≡ x ++ t → length x ≡ min 48 (length bs) → 0 < length bs → pieces bs ≡ x ∷ pieces t
 unfolding piece
-piece_is bs i k e =
-    let n : length (drop (48 * i) bs) ≡ length bs - 48 * i = length-drop (48 * i) bs in
-    let rest = take (length bs - 48 * i) (drop (48 * i) bs) in
-    let whole : rest ≡ drop (48 * i) bs = take_all (length bs - 48 * i) (drop (48 * i) bs) (omega arith) in
-    ap (λ m. take m rest) e ∙ take_min 48 rest ∙ ap (take 48) whole
+pieces_front bs x t e n l =
+    let m : (length bs + 47) / 48 ≡ suc ((length t + 47) / 48) = omega (arith, ap length e, length-append x t) in
+    let front : piece bs 0 ≡ x = sym (take_min 48 bs) ∙ ap (λ k. take k bs) (sym n) ∙ ap (take (length x)) e ∙ take_at x t (length x) refl in
+    let behind : drop 48 bs ≡ t = sym (drop_min 48 bs) ∙ ap (λ k. drop k bs) (sym n) ∙ ap (drop (length x)) e ∙ drop_at x t (length x) refl in
+    rw (m, front, pieces_behind bs t behind 0 ((length t + 47) / 48))
 
-pub decoded_none : (bs : List ℕ) → decoded_to bs 0 ≡ []
-unfolding decoded_to
-decoded_none bs = refl
+pub pieces_in_chunks : (s : _) (bs : List ℕ) → chunks_rest s ≡ bs → chunks_size s ≡ 48 → YieldsList chunks_steps (λ x. x.now) s (pieces bs)
+pieces_in_chunks s bs e h =
+    subst (λ (xs : List ℕ). YieldsList chunks_steps (λ x. x.now) s (pieces xs)) e
+    (YieldsList-from_shown_while chunks_steps (λ x. x.now) (λ r. pieces (chunks_rest r)) (λ r. chunks_size r ≡ 48)
+    (λ r t k g. let z : (length (chunks_rest r) + 47) / 48 ≡ 0 = omega (arith, g.1.0) in rw z refl)
+    (λ r x t k g. (g.0 ∙ k, pieces_front (chunks_rest r) x.now (chunks_rest t) g.1.0 (g.1.1 ∙ ap (λ n. min n (length (chunks_rest r))) k) g.1.2))
+    s h)
 
-pub decoded_more : (bs : List ℕ) (i : ℕ) (done : List (Result Record RecordFault)) (x : Result Record RecordFault) →
-    map outcome done ≡ decoded_to bs i → outcome x ≡ decoded (piece bs i) → map outcome (done ++ (x ∷ [])) ≡ decoded_to bs (i + 1)
-unfolding decoded_to
-decoded_more bs i done x e h =
-    let n : i + 1 ≡ suc i = omega arith in
-    map-append outcome done (x ∷ [])
-    ∙ ap (λ xs. xs ++ (outcome x ∷ [])) e
-    ∙ ap (λ y. decoded_to bs i ++ (y ∷ [])) h
-    ∙ ap (decoded_to bs) (sym n)
-
-pub decoded-all : (bs : List ℕ) (i n : ℕ) (done : List (Result Record RecordFault)) → map outcome done ≡ decoded_to bs i → i ≡ n → n ≡ length bs / 48 + min 1 (length bs % 48) → map outcome done ≡ decoded_to bs ((length bs + 47) / 48)
-decoded-all bs i n done e h k =
-    let m : i ≡ (length bs + 47) / 48 = omega arith in
-    e ∙ ap (decoded_to bs) m
-
--- ---- the records among them
-
-well_formed-append : (xs ys : List (Result Mutation RecordFault)) → well_formed (xs ++ ys) ≡ well_formed xs ++ well_formed ys
-well_formed-append [] ys = refl
-well_formed-append (Ok m ∷ xs) ys = ap (λ ms. m ∷ ms) (well_formed-append xs ys)
-well_formed-append (Err f ∷ xs) ys = well_formed-append xs ys
-
-abbrev pub records_in : List (Result Record RecordFault) → List Mutation
-records_in ls = well_formed (map outcome ls)
-
-line_more : (ls : List (Result Record RecordFault)) (i : ℕ) (x : Result Record RecordFault) → i < length ls → x ≡ get_or ls i x → records_in (take (i + 1) ls) ≡ records_in (take i ls) ++ records_in (x ∷ [])
-line_more ls i x h e =
-    ap records_in (take_more ls i x h)
-    ∙ ap well_formed (map-append outcome (take i ls) (get_or ls i x ∷ []))
-    ∙ well_formed-append (map outcome (take i ls)) (map outcome (get_or ls i x ∷ []))
-    ∙ ap (λ y. records_in (take i ls) ++ records_in (y ∷ [])) (sym e)
-
-module _ (ls : List (Result Record RecordFault)) (i : ℕ) (done : List Record) (e : map says done ≡ records_in (take i ls)) where
-  pub record_more : (after : List Record) (x : Result Record RecordFault) (r : Record) → i < length ls → x ≡ get_or ls i x → x ≡ Ok r → after ≡ done ++ (r ∷ []) → map says after ≡ records_in (take (i + 1) ls)
-  record_more after x r h k o g =
-      ap (map says) g
-      ∙ map-append says done (r ∷ [])
-      ∙ ap (λ xs. xs ++ (says r ∷ [])) e
-      ∙ ap (λ y. records_in (take i ls) ++ records_in (y ∷ [])) (sym o)
-      ∙ sym (line_more ls i x h k)
-
-  pub fault_more : (after : List Record) (x : Result Record RecordFault) → i < length ls → x ≡ get_or ls i x → ((r : Record) → x ≡ Ok r → ⊥) → after ≡ done → map says after ≡ records_in (take (i + 1) ls)
-  fault_more after x h k n g = ap (map says) g ∙ e ∙ sym (append-nil (records_in (take i ls))) ∙ ap (λ ms. records_in (take i ls) ++ ms) (none x n) ∙ sym (line_more ls i x h k)
-    where
-      none : (y : Result Record RecordFault) → ((r : Record) → y ≡ Ok r → ⊥) → [] ≡ records_in (y ∷ [])
-      none (Ok r) m = absurd (m r refl)
-      none (Err f) m = refl
-
-  pub record-all : length ls ≤ i → map says done ≡ records_in ls
-  record-all h = e ∙ ap records_in (take_all i ls h)
+pub records_among : (ls : List (Result Record RecordFault)) → map says (filter_map result_ok ls) ≡ well_formed (map outcome ls)
+records_among [] = refl
+records_among (Ok r ∷ ls) = ap (λ ms. says r ∷ ms) (records_among ls)
+records_among (Err f ∷ ls) = records_among ls

@@ -1,5 +1,5 @@
 -- How many plots of a section are listed and free, and which sections there are.
-use Rattle.std.specs.Prelude.{◌≡◌, ℕ, ◌<◌, ◌≤◌, true, false, List, map, length, Some, None, Option}
+use Rattle.std.specs.Prelude.{◌≡◌, ℕ, ◌<◌, ◌≤◌, Bool, List, [], ◌∷◌, ◌++◌, map, length, Option, MatchOption}
 use Rattle.records.specs.Content.{Content, Mutation, content_of}
 use Rattle.records.specs.Listed.{passing, listed, free}
 use Rattle.listing.specs.declared.section.PlotCount.{PlotCount}
@@ -17,28 +17,7 @@ count_of c s = record { section = s; plots = plots_of c s }
 abbrev pub counts_of : List Mutation → List SectionCount
 counts_of ms = map (count_of (content_of ms)) (passing (in_section ms) 9999)
 
--- k is below r; each number is if r is none
-abbrev pub Ahead : ℕ → Option ℕ → Type 0
-Ahead k None = Unit {0}
-Ahead k (Some q) = k < q
-
--- r, if any, is above `after`, and no greater than `last`
-abbrev pub Follows : ℕ → ℕ → Option ℕ → Type 0
-Follows after last None = Unit {0}
-Follows after last (Some q) = (after < q) × (q ≤ last)
-
--- no plot of section s above `after` and before r has a cell
-pub record NextPlot (c : Content) (s after : ℕ) (r : Option ℕ) : Type 0 where
-  pub bare : (p f : ℕ) → after < p → p ≤ 999999 → Ahead p r → c.cell s p f ≡ None
-  pub follows : Follows after 999999 r
-
--- r, if any, has a record
-abbrev pub Found : List Mutation → Option ℕ → Type 0
-Found ms None = Unit {0}
-Found ms (Some s) = in_section ms s ≡ true
-
--- r is the first section above `after` with a record
-pub record NextSection (ms : List Mutation) (after : ℕ) (r : Option ℕ) : Type 0 where
-  pub bare : (s : ℕ) → after < s → Ahead s r → in_section ms s ≡ false
-  pub follows : Follows after 9999 r
-  pub found : Found ms r
+-- r is the first number above `after`, up to `last`, that passes a test; none does if r is none
+abbrev pub IsNext : (ℕ → Bool) → ℕ → ℕ → Option ℕ → Type 0
+IsNext test after last r =
+    MatchOption r (after ≤ last → passing test last ≡ passing test after) (λ q. (after < q) × (q ≤ last) × (passing test q ≡ passing test after ++ (q ∷ [])))

@@ -1,29 +1,25 @@
 -- What a file of records says.
-use Rattle.std.specs.Prelude.{◌≡◌, ℕ, zero, suc, ◌+◌, ◌*◌, ◌/◌, List, [], ◌∷◌, ◌++◌, map, length, take, drop, Ok, Err, vec_items, Result}
+use Rattle.std.specs.Prelude.{◌≡◌, ℕ, ◌+◌, ◌/◌, List, map, length, vec_items, Result}
+use Rattle.std.specs.List.{filter_map, range_with_len}
+use Rattle.std.specs.Result.{result_ok}
 use Rattle.records.specs.Content.{Mutation}
 use Rattle.layout.specs.declared.fault.RecordFault.{RecordFault}
 use Rattle.layout.specs.Layout.{decoded, outcome}
+use Rattle.layout.specs.Pieces.{piece}
 use Rattle.listing.specs.declared.sheet.Sheet.{Sheet}
 use Rattle.listing.specs.Count.{counts_of}
 
--- the i-th 48 bytes of a file, fewer at its end
-unfoldable pub piece : List ℕ → ℕ → List ℕ
-piece bs i = take 48 (drop (48 * i) bs)
+-- the pieces of a file, 48 bytes each, the last perhaps shorter
+abbrev pub pieces : List ℕ → List (List ℕ)
+pieces bs = map (piece bs) (range_with_len 0 ((length bs + 47) / 48))
 
--- the first n of them decoded
-unfoldable pub decoded_to : List ℕ → ℕ → List (Result Mutation RecordFault)
-decoded_to bs zero = []
-decoded_to bs (suc n) = decoded_to bs n ++ (decoded (piece bs n) ∷ [])
-
--- all of them, with a rest of fewer than 48 bytes
+-- what each of them says
 abbrev pub lines_of : List ℕ → List (Result Mutation RecordFault)
-lines_of bs = decoded_to bs ((length bs + 47) / 48)
+lines_of bs = map decoded (pieces bs)
 
 -- the records among them
 abbrev pub well_formed : List (Result Mutation RecordFault) → List Mutation
-well_formed [] = []
-well_formed (Ok m ∷ ls) = m ∷ well_formed ls
-well_formed (Err f ∷ ls) = well_formed ls
+well_formed ls = filter_map result_ok ls
 
 -- a sheet has a line for each 48 bytes and for a rest, and the counts that the records among them come to
 pub record SheetOf (bs : List ℕ) (s : Sheet) : Type 0 where

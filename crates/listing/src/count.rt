@@ -1,72 +1,66 @@
 //! The plots of a section, counted.
 
-ghost use Rattle.std.specs.Prelude.{◌≡◌, ◌≤◌, [], map, IfOk, OnOk};
+ghost use Rattle.std.specs.Prelude.{◌≡◌, map, filter_map, IfOk};
 ghost use Rattle.records.specs.Content.{is_live};
-ghost use Rattle.records.specs.Meaning.{says};
-ghost use Rattle.records.specs.Listed.{listed as is_listed, free as is_free};
-ghost use Rattle.listing.specs.Fold.{content_in};
-ghost use Rattle.listing.specs.Count.{plots_of, count_of, counts_of, NextPlot, NextSection};
+ghost use Rattle.records.specs.Meaning.{says, held_at};
+ghost use Rattle.records.specs.Listed.{listed as is_listed};
+ghost use Rattle.listing.specs.Fold.{content_in, in_section, in_plot, section_of as section_in, plot_in as plot_of};
+ghost use Rattle.listing.specs.Count.{plots_of, count_of, counts_of, IsNext};
 
-use crate::fold::{SECTION_KEYS, cell_at, next_key};
+use crate::fold::cell_at;
 use crate::section::{PlotCount, SectionCount};
-use records::Record;
 use records::range::LAST_FIELD;
+use records::{Place, Plot, Record};
 use std::alloc::{AllocError, Global};
 
-fn live_at(records: &[Record], section: u16, plot: u32, field: u8) -> bool
-    ensures { result ≡ is_live ((content_in records.now).cell section plot field) }
+// Whether the cell of a place holds a value.
+fn live_at(records: &[Record], place: Place) -> bool
+    ensures { result ≡ is_live (held_at (content_in records.now) place) }
 {
-    let Some(cell) = cell_at(records, section, plot, field) else {
-        return false;
-    };
-    cell.is_live()
+    cell_at(records, place).is_some_and(|cell| cell.is_live())
 }
 
-fn listed_at(records: &[Record], section: u16, plot: u32) -> bool
-    ensures { result ≡ is_listed (content_in records.now) section plot }
+fn listed_at(records: &[Record], plot: Plot) -> bool
+    ensures { result ≡ is_listed (content_in records.now) plot.section plot.number }
 {
-    for field in 1..=LAST_FIELD {
-        if live_at(records, section, plot, field) {
-            return true;
-        }
+    (1..=LAST_FIELD).any(|field| live_at(records, Place { plot, field }))
+}
+
+// The plot of a section that a record writes a cell in.
+fn plot_in(record: &Record, section: u16) -> Option<u32>
+    ensures { result ≡ plot_of section (says «record».now) }
+{
+    match record {
+        Record::Cell(cell) if cell.section() == section => Some(cell.plot()),
+        _ => None,
     }
-    false
-}
-
-fn free_at(records: &[Record], section: u16, plot: u32, listed: bool) -> bool
-    requires { listed ≡ is_listed (content_in records.now) section plot }
-    ensures { result ≡ is_free (content_in records.now) section plot }
-{
-    listed && !live_at(records, section, plot, 1)
 }
 
 // The first plot of a section, above another, with a cell written.
-fn next_plot(records: &[Record], section: u16, after: u32) -> Option<u32>
-    requires { after ≤ 999999 }
-    ensures { NextPlot (content_in records.now) section after result }
+fn next_plot(records: &[Record], after: Plot) -> Option<u32>
+    ensures { IsNext (in_plot (map says records.now) after.section) after.number 999999 result }
 {
-    let start = SECTION_KEYS * section as u64;
-    let Some(key) = next_key(records, start + after as u64) else {
-        return None;
-    };
-    if key >= start + SECTION_KEYS {
-        return None;
-    }
-    Some((key - start) as u32)
+    records
+        .iter()
+        .filter_map(|record| plot_in(record, after.section))
+        .filter(|number| after.number < *number)
+        .min()
 }
 
 // The listed and the free plots of a section.
+#[tactic(auto, using(crate::proofs::Counts::counting))]
 fn count_plots(records: &[Record], section: u16) -> PlotCount
     ensures { result ≡ plots_of (content_in records.now) section }
 {
     let mut listed = 0;
     let mut free = 0;
-    let mut plot = 0;
-    while let Some(next) = next_plot(records, section, plot) {
-        let here = listed_at(records, section, next);
+    let mut plot = Plot { section, number: 0 };
+    // As `successors(..)` with `fold` it is no plainer: that needs a `take`, to end it, and a pair, for the two sums.
+    while let Some(number) = next_plot(records, plot) {
+        plot.number = number;
+        let here = listed_at(records, plot);
         listed += u32::from(here);
-        free += u32::from(free_at(records, section, next, here));
-        plot = next;
+        free += u32::from(here && !live_at(records, Place { plot, field: 1 }));
     }
     PlotCount { listed, free }
 }
@@ -79,35 +73,39 @@ pub fn count_section(records: &[Record], section: u16) -> SectionCount
     SectionCount { section, plots }
 }
 
-// The first section above another with a record.
-fn next_section(records: &[Record], after: u16) -> Option<u16>
-    requires { after ≤ 9999 }
-    ensures { NextSection (map says records.now) after result }
+fn section_of(record: &Record) -> u16
+    ensures { result ≡ section_in (says «record».now) }
 {
-    let Some(key) = next_key(records, SECTION_KEYS * after as u64 + (SECTION_KEYS - 1)) else {
-        return None;
-    };
-    Some((key / SECTION_KEYS) as u16)
+    match record {
+        Record::Deletion(deletion) => deletion.section(),
+        Record::Cell(cell) => cell.section(),
+    }
 }
 
-// Adds the counts of each section with a record, by section.
-fn add_counts(counts: &mut Vec<SectionCount>, records: &[Record]) -> Result<(), AllocError>
-    requires { counts.old.items ≡ [] }
-    ensures { OnOk result (counts.new.items ≡ counts_of (map says records.now)) }
+// The first section above another with a record.
+// Not one function with `next_plot`: over `u32` the sections would be widened and narrowed again, and over a type parameter
+// `IsNext`, which speaks of numbers, could not be said.
+fn next_section(records: &[Record], after: u16) -> Option<u16>
+    ensures { IsNext (in_section (map says records.now)) after 9999 result }
 {
-    let mut section = 0;
-    while let Some(next) = next_section(records, section) {
-        counts.push(count_section(records, next))?;
-        section = next;
-    }
-    Ok(())
+    records
+        .iter()
+        .map(section_of)
+        .filter(|section| after < *section)
+        .min()
 }
 
 /// The counts of each section with a record, by section.
+#[tactic(auto, using(crate::proofs::Counts::counting))]
 pub fn count_sections(heap: Global, records: &[Record]) -> Result<Vec<SectionCount>, AllocError>
     ensures { IfOk result (λ v. v.items ≡ counts_of (map says records.now)) }
 {
     let mut counts = Vec::new(heap);
-    add_counts(&mut counts, records)?;
+    let mut section = 0;
+    // As `successors` with `collect` it did not prove (`collect-requires-clause-finite`); a `take` makes it no plainer.
+    while let Some(next) = next_section(records, section) {
+        counts.push(count_section(records, next))?;
+        section = next;
+    }
     Ok(counts)
 }

@@ -2,118 +2,68 @@
 
 ghost use Rattle.std.specs.Prelude.{◌≡◌, map};
 ghost use Rattle.std.specs.Option.{option_map};
-ghost use Rattle.records.specs.Content.{one};
-ghost use Rattle.records.specs.Meaning.{says, version_of};
-ghost use Rattle.listing.specs.Fold.{content_in, At, written, key_above, lesser, next_key};
+ghost use Rattle.records.specs.Content.{later, one};
+ghost use Rattle.records.specs.Meaning.{says, version_of, cover_on, held_at};
+ghost use Rattle.listing.specs.Fold.{content_in, At, written};
 
-use reconcile::{greater_cell, later_cover, uncovered_cell};
-use records::{Cell, Record, Tombstone};
-
-// How many keys a section has: more than it has plots.
-pub(crate) const SECTION_KEYS: u64 = 1_048_576;
+use reconcile::{greater, later_cover, uncovered_cell};
+use records::{Cell, Place, Plot, Record, Tombstone};
 
 // What one record leaves on a plot.
-fn cover_by(record: &Record, section: u16, plot: u32) -> Option<Tombstone>
-    ensures { result ≡ (one (says «record».now)).cover section plot }
+fn cover_by(record: &Record, plot: Plot) -> Option<Tombstone>
+    ensures { result ≡ cover_on (one (says «record».now)) plot }
 {
-    if let Record::Deletion(d) = record {
-        if section == d.section() && d.first() <= plot && plot <= d.last() {
-            return Some(d.tombstone());
-        }
+    match record {
+        Record::Deletion(deletion) if deletion.has(plot) => Some(deletion.tombstone()),
+        _ => None,
     }
-    None
 }
 
 // The cell that one record writes at a place.
-fn cell_by(record: &Record, section: u16, plot: u32, field: u8) -> Option<Cell>
-    ensures version { option_map version_of result ≡ (one (says «record».now)).cell section plot field }
-    ensures place { At section plot field result }
+fn cell_by(record: &Record, place: Place) -> Option<Cell>
+    ensures version { option_map version_of result ≡ held_at (one (says «record».now)) place }
+    ensures place { At place result }
 {
-    if let Record::Cell(c) = record {
-        if section == c.section() && plot == c.plot() && field == c.field() {
-            return Some(*c);
-        }
+    match record {
+        Record::Cell(cell) if cell.place() == place => Some(*cell),
+        _ => None,
     }
-    None
+}
+
+// The latest of a cover and what each record leaves on a plot. The fold is over any cover, so that its proof can go on
+// from each.
+fn latest(cover: Option<Tombstone>, records: &[Record], plot: Plot) -> Option<Tombstone>
+    ensures { result ≡ later cover (cover_on (content_in records.now) plot) }
+{
+    records
+        .iter()
+        .fold(cover, |cover, r| later_cover(cover, cover_by(r, plot)))
 }
 
 /// The cover of a plot: the latest deletion over it.
-pub fn cover_at(records: &[Record], section: u16, plot: u32) -> Option<Tombstone>
-    ensures { result ≡ (content_in records.now).cover section plot }
+pub fn cover_at(records: &[Record], plot: Plot) -> Option<Tombstone>
+    ensures { result ≡ cover_on (content_in records.now) plot }
 {
-    let mut cover = None;
-    for record in records {
-        cover = later_cover(cover, cover_by(record, section, plot));
-    }
-    cover
+    latest(None, records, plot)
 }
 
 // The greatest cell written at a place, covered or not.
-fn written_at(records: &[Record], section: u16, plot: u32, field: u8) -> Option<Cell>
-    ensures version { option_map version_of result ≡ written (map says records.now) section plot field }
-    ensures place { At section plot field result }
+fn written_at(records: &[Record], place: Place) -> Option<Cell>
+    ensures version { option_map version_of result ≡ written (map says records.now) place }
+    ensures place { At place result }
 {
-    let mut cell = None;
-    for record in records {
-        cell = greater_cell(cell, cell_by(record, section, plot, field));
-    }
-    cell
-}
-
-// The greatest cell written at a place, or none where its plot's cover covers it.
-fn cell_under(
-    cover: Option<Tombstone>,
-    records: &[Record],
-    section: u16,
-    plot: u32,
-    field: u8,
-) -> Option<Cell>
-    requires { cover ≡ (content_in records.now).cover section plot }
-    ensures version { option_map version_of result ≡ (content_in records.now).cell section plot field }
-    ensures place { At section plot field result }
-{
-    uncovered_cell(cover, written_at(records, section, plot, field))
+    records
+        .iter()
+        .filter_map(|r| cell_by(r, place))
+        .reduce(|a, b| greater(a, b))
 }
 
 /// The cell at a place.
-pub fn cell_at(records: &[Record], section: u16, plot: u32, field: u8) -> Option<Cell>
-    ensures version { option_map version_of result ≡ (content_in records.now).cell section plot field }
-    ensures place { At section plot field result }
+#[tactic(auto, using(crate::proofs::Folds::cell_is))]
+pub fn cell_at(records: &[Record], place: Place) -> Option<Cell>
+    ensures version { option_map version_of result ≡ held_at (content_in records.now) place }
+    ensures place { At place result }
 {
-    let cover = cover_at(records, section, plot);
-    cell_under(cover, records, section, plot, field)
-}
-
-// A record's plot as one number (section, then plot, 0 for a deletion), if it is above another.
-fn key_by(record: &Record, after: u64) -> Option<u64>
-    ensures { result ≡ key_above after (says «record».now) }
-{
-    let key = match record {
-        Record::Deletion(d) => SECTION_KEYS * d.section() as u64,
-        Record::Cell(c) => SECTION_KEYS * c.section() as u64 + c.plot() as u64,
-    };
-    if after < key { Some(key) } else { None }
-}
-
-fn lesser(a: Option<u64>, b: Option<u64>) -> Option<u64>
-    ensures { result ≡ lesser a b }
-{
-    let Some(x) = a else {
-        return b;
-    };
-    let Some(y) = b else {
-        return a;
-    };
-    Some(x.min(y))
-}
-
-// The least key above a number.
-pub(crate) fn next_key(records: &[Record], after: u64) -> Option<u64>
-    ensures { result ≡ next_key after (map says records.now) }
-{
-    let mut next = None;
-    for record in records {
-        next = lesser(next, key_by(record, after));
-    }
-    next
+    let cover = cover_at(records, place.plot);
+    uncovered_cell(cover, written_at(records, place))
 }

@@ -1,9 +1,10 @@
 //! A file of records, read.
 
-ghost use Rattle.std.specs.Prelude.{◌≡◌, ◌*◌, ◌≤◌, map, length, IfOk};
-ghost use Rattle.records.specs.Meaning.{says};
+ghost use Rattle.std.specs.Prelude.{◌≡◌, map, IfOk};
+ghost use Rattle.std.specs.List.{filter_map};
+ghost use Rattle.std.specs.Result.{result_ok};
 ghost use Rattle.layout.specs.Layout.{outcome};
-ghost use Rattle.listing.specs.Lines.{piece as piece_of, lines_of, well_formed, SheetOf};
+ghost use Rattle.listing.specs.Lines.{lines_of, SheetOf};
 
 use crate::count::count_sections;
 use crate::sheet::Sheet;
@@ -11,24 +12,11 @@ use layout::{RecordFault, decode};
 use records::Record;
 use std::alloc::{AllocError, Global};
 
-// The i-th 48 bytes, fewer at the end.
-fn piece(bytes: &[u8], i: usize) -> &[u8]
-    requires { 48 * i ≤ length bytes.now }
-    ensures { result.now ≡ piece_of bytes.now i }
-{
-    let rest = &bytes[48 * i..];
-    &rest[..rest.len().min(48)]
-}
-
 // Each 48 bytes decoded, and the rest.
 fn read_lines(heap: Global, bytes: &[u8]) -> Result<Vec<Result<Record, RecordFault>>, AllocError>
     ensures { IfOk result (λ v. map outcome v.items ≡ lines_of bytes.now) }
 {
-    let mut lines = Vec::new(heap);
-    for i in 0..bytes.len().div_ceil(48) {
-        lines.push(decode(piece(bytes, i)))?;
-    }
-    Ok(lines)
+    bytes.chunks(48).map(|piece| decode(piece)).collect(heap)
 }
 
 // The records among the lines.
@@ -36,19 +24,14 @@ fn well_formed(
     heap: Global,
     lines: &[Result<Record, RecordFault>],
 ) -> Result<Vec<Record>, AllocError>
-    ensures { IfOk result (λ v. map says v.items ≡ well_formed (map outcome lines.now)) }
+    ensures { IfOk result (λ v. v.items ≡ filter_map result_ok lines.now) }
 {
-    let mut records = Vec::new(heap);
-    for line in lines {
-        if let Ok(record) = line {
-            records.push(*record)?;
-        }
-    }
-    Ok(records)
+    lines.iter().filter_map(|line| line.ok()).collect(heap)
 }
 
 impl Sheet {
     /// Reads a file of records, of any length and content.
+    #[tactic(auto, using(crate::proofs::Lines::records_among))]
     pub fn read(heap: Global, bytes: &[u8]) -> Result<Sheet, AllocError>
         ensures { IfOk result (λ s. SheetOf bytes.now s) }
     {

@@ -1,23 +1,10 @@
 -- The laws of covers and cells at one place.
-use Rattle.std.proofs.Common.{◌≡◌, ℕ, ◌+◌, ◌<◌, ◌≤◌, max, Bool, true, false, leb, ◌⊎◌, List, [], ◌∷◌, Some, None, Option, sym, refl, ap, ◌∙◌, inl, inr, arith}
-use Rattle.std.proofs.lemmas.Bool.Decides.{nat_tests}
+use Rattle.std.proofs.Common.{◌≡◌, ℕ, ◌+◌, ◌<◌, ◌≤◌, max, ◌⊎◌, List, [], ◌∷◌, Some, None, Option, sym, refl, ap, ◌∙◌, inl, inr, arith}
+use Rattle.std.proofs.lemmas.Bool.{le-leb, lt-leb, cases_lt}
 use Rattle.records.specs.declared.tombstone.Tombstone.{Tombstone}
 use Rattle.records.specs.Content.{Version, tombstone_key, version_key, later, greater, uncovered}
 use Rattle.reconcile.proofs.Orders.{upto_head, upto_below, greatest_none, greatest_same, greatest_cases, greatest_comm, greatest_assoc, greatest_down, greatest_either, GreatestIs}
 use Rattle.reconcile.specs.Laws.{MaximumLaws}
-
-leb_of_le : {m n : ℕ} → m ≤ n → leb m n ≡ true
-leb_of_le {m} {n} h = grind (arith, nat_tests)
-
-leb_of_lt : {m n : ℕ} → n < m → leb m n ≡ false
-leb_of_lt {m} {n} h = grind (arith, nat_tests)
-
-lt_or_ge : (m n : ℕ) → (m ≤ n) ⊎ (n < m)
-lt_or_ge m n = go (leb m n) refl
-  where
-    go : (b : Bool) → leb m n ≡ b → (m ≤ n) ⊎ (n < m)
-    go true e = inl (grind (arith, nat_tests))
-    go false e = inr (grind (arith, nat_tests))
 
 head : List ℕ → ℕ
 head [] = 0
@@ -110,15 +97,19 @@ floor_later (Some a) (Some b) = go (later_is a b)
 
 pub let_through : (t : Option Tombstone) (c : Version) → floor t ≤ c.stamp → uncovered t (Some c) ≡ Some c
 let_through None c h = refl
-let_through (Some t) c h = rw (leb_of_lt {m = c.stamp} {n = t.stamp} (omega arith)) refl
+let_through (Some t) c h = rw (lt-leb c.stamp t.stamp (omega arith)) refl
 
 pub held_back : (t : Option Tombstone) (c : Version) → c.stamp < floor t → uncovered t (Some c) ≡ None
 held_back None c h = absurd (omega arith)
-held_back (Some t) c h = rw (leb_of_le {m = c.stamp} {n = t.stamp} (omega arith)) refl
+held_back (Some t) c h = rw (le-leb c.stamp t.stamp (omega arith)) refl
 
 -- either way
 pub gate : (t : Option Tombstone) (c : Version) → (floor t ≤ c.stamp) ⊎ (c.stamp < floor t)
-gate t c = lt_or_ge (floor t) c.stamp
+gate t c = go (cases_lt c.stamp (floor t))
+  where
+    go : (c.stamp < floor t) ⊎ (floor t ≤ c.stamp) → (floor t ≤ c.stamp) ⊎ (c.stamp < floor t)
+    go (inl k) = inr k
+    go (inr k) = inl k
 
 pub is_through : (t : Option Tombstone) (c : Version) → uncovered t (Some c) ≡ Some c → floor t ≤ c.stamp
 is_through t c h = go (gate t c)

@@ -3,3 +3,4 @@ pub mod Ext
 pub mod Says
 pub mod Passing
 pub mod Equal
+pub mod Order

@@ -41,22 +41,6 @@ module _ (test : ℕ → Bool) where
   pub passing-empty : (n : ℕ) → ((k : ℕ) → 0 < k → k ≤ n → test k ≡ false) → passing test n ≡ []
   passing-empty n h = passing_skip 0 n (omega arith) h ∙ passing_none
 
-  grows : (m d : ℕ) → length (passing test m) ≤ length (passing test (m + d))
-  grows m zero = let e : m + 0 ≡ m = omega arith in rw e (omega arith)
-  grows m (suc d) =
-      let e : m + suc d ≡ m + d + 1 = omega arith in
-      rw (e, passing_more (m + d), length-append (passing test (m + d)) (cond (test (m + d + 1)) ((m + d + 1) ∷ []) [])) (omega (arith, grows m d))
-
-  -- one of the numbers up to n passes
-  pub passing_some : (k n : ℕ) → 1 ≤ k → k ≤ n → test k ≡ true → 0 < length (passing test n)
-  passing_some k n l h t =
-      let a : k ≡ k - 1 + 1 = omega arith in
-      let b : n ≡ k + (n - k) = omega arith in
-      let p : passing test k ≡ passing test (k - 1) ++ (k ∷ []) =
-      ap (passing test) a ∙ passing_more (k - 1) ∙ ap (λ x. passing test (k - 1) ++ cond (test x) (x ∷ []) []) (sym a) ∙ ap (λ y. passing test (k - 1) ++ cond y (k ∷ []) []) t in
-      let q : length (passing test k) ≡ length (passing test (k - 1)) + 1 = ap length p ∙ length-append (passing test (k - 1)) (k ∷ []) in
-      rw b (omega (arith, grows k (n - k)))
-
   pub passing_few : (n : ℕ) → length (passing test n) ≤ n
   unfolding passing
   passing_few zero = omega arith

@@ -5,14 +5,13 @@ use Rattle.records.specs.declared.value.Value.{Value}
 use Rattle.records.specs.declared.state.State.{State}
 use Rattle.records.specs.declared.state.State.TheVariants.{Live, Cleared}
 use Rattle.records.specs.declared.cell.Cell.{Cell}
-use Rattle.records.specs.declared.deletion.Deletion.{Deletion}
 use Rattle.records.specs.declared.record.Record.{Record}
 use Rattle.records.specs.declared.record.Record.TheVariants as which
 use Rattle.records.specs.States.{bytes_of, rank_of, day_of, value_of}
 use Rattle.records.specs.Content.{Mutation, deletion, entry}
-use Rattle.records.specs.Meaning.{tombstone_of, version_of, deletion_says, cell_says, says}
+use Rattle.records.specs.Meaning.{version_of, deletion_says, cell_says, says}
 use Rattle.records.proofs.Zeros.{zeros_are}
-use Rattle.records.proofs.Ext.{value_ext, deletion_ext, cell_ext}
+use Rattle.records.proofs.Ext.{place_ext, value_ext, deletion_ext, cell_ext}
 
 -- a value's length is its own
 pub value_long : (v : Value) → length (bytes_of v) ≡ v.len
@@ -40,13 +39,10 @@ state_known (Live v) (Cleared y) r d e = absurd (omega arith)
 state_known (Cleared x) (Live w) r d e = absurd (omega arith)
 
 -- a cell by its place and its version
-pub cell_known : (a b : Cell) → a.section ≡ b.section → a.plot ≡ b.plot → a.field ≡ b.field → version_of a ≡ version_of b → a ≡ b
-cell_known a b s p f v =
-    cell_ext a b s p f (ap (λ x. x.stamp) v)
+pub cell_known : (a b : Cell) → a.place ≡ b.place → version_of a ≡ version_of b → a ≡ b
+cell_known a b p v =
+    cell_ext a b p (ap (λ x. x.stamp) v)
     (state_known a.state b.state (ap (λ x. x.rank) v) (ap (λ x. x.day) v) (ap (λ x. x.value) v))
-
-pub deletion_known : (a b : Deletion) → a.section ≡ b.section → a.first ≡ b.first → a.last ≡ b.last → tombstone_of a ≡ tombstone_of b → a ≡ b
-deletion_known a b s f l t = deletion_ext a b s f l (ap (λ x. x.stamp) t) (ap (λ x. x.day) t)
 
 apart : (s a b : ℕ) (s' p f : ℕ) (x : Mutation) (t : _) (c : _) → x ≡ deletion s a b t → x ≡ entry s' p f c → ⊥
 apart s a b s' p f x t c h k = let z : ◌≡◌ {A = ℕ} 0 1 = cc in omega arith
@@ -56,13 +52,13 @@ says_known (which.Deletion a) (which.Deletion b) e =
     let s : a.section ≡ b.section = cc in
     let f : a.first ≡ b.first = cc in
     let l : a.last ≡ b.last = cc in
-    let t : tombstone_of a ≡ tombstone_of b = cc in
-    ap which.Deletion (deletion_known a b s f l t)
+    let t : a.tombstone ≡ b.tombstone = cc in
+    ap which.Deletion (deletion_ext a b s f l t)
 says_known (which.Cell a) (which.Cell b) e =
-    let s : a.section ≡ b.section = cc in
-    let p : a.plot ≡ b.plot = cc in
-    let f : a.field ≡ b.field = cc in
+    let s : a.place.plot.section ≡ b.place.plot.section = cc in
+    let n : a.place.plot.number ≡ b.place.plot.number = cc in
+    let f : a.place.field ≡ b.place.field = cc in
     let v : version_of a ≡ version_of b = cc in
-    ap which.Cell (cell_known a b s p f v)
+    ap which.Cell (cell_known a b (place_ext a.place b.place s n f) v)
 says_known (which.Deletion a) (which.Cell b) e = absurd (apart _ _ _ _ _ _ (deletion_says a) _ _ refl e)
 says_known (which.Cell a) (which.Deletion b) e = absurd (apart _ _ _ _ _ _ (cell_says a) _ _ e refl)

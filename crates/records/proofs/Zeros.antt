@@ -1,20 +1,7 @@
-use Rattle.std.proofs.Common.{◌≡◌, ℕ, zero, suc, ◌+◌, ◌-◌, ◌<◌, ◌≤◌, Bool, true, false, cond, eqb, List, [], ◌∷◌, ◌++◌, length, get_or, take, drop, replicate, sym, refl, ap, ◌∙◌, arith}
+use Rattle.std.proofs.Common.{◌≡◌, ℕ, zero, suc, ◌-◌, true, List, [], ◌∷◌, ◌++◌, length, take, drop, replicate, refl, ap, ◌∙◌, arith}
 use Rattle.std.proofs.lemmas.Bool.Decides.{nat_tests}
-use Rattle.std.proofs.lemmas.List.{drop_more, drop_all, take_at, drop_at, drop-replicate}
+use Rattle.std.proofs.lemmas.List.{take_at, drop_at, drop-replicate}
 use Rattle.records.specs.Zeros.{all_zero}
-
-pub stops : (xs : List ℕ) (i : ℕ) (z : Bool) → i < length xs → all_zero (drop i xs) ≡ z → (get_or xs i 0 ≡ 0 → ⊥) → false ≡ z
-stops xs i z h e n =
-    let s : all_zero (drop i xs) ≡ cond (eqb (get_or xs i 0) 0) (all_zero (drop (i + 1) xs)) false = ap all_zero (drop_more xs i 0 h) in
-    grind (arith, nat_tests)
-
-pub goes : (xs : List ℕ) (i : ℕ) (z : Bool) → i < length xs → all_zero (drop i xs) ≡ z → get_or xs i 0 ≡ 0 → all_zero (drop (i + 1) xs) ≡ z
-goes xs i z h e n =
-    let s : all_zero (drop i xs) ≡ cond (eqb (get_or xs i 0) 0) (all_zero (drop (i + 1) xs)) false = ap all_zero (drop_more xs i 0 h) in
-    grind (arith, nat_tests)
-
-pub ends : (xs : List ℕ) (i : ℕ) (z : Bool) → length xs ≤ i → all_zero (drop i xs) ≡ z → true ≡ z
-ends xs i z h e = sym (ap all_zero (drop_all i xs h)) ∙ e
 
 -- bytes that are all 0 are so many zeros
 pub zeros_are : (xs : List ℕ) (n : ℕ) → length xs ≡ n → all_zero xs ≡ true → xs ≡ replicate n 0

@@ -5,4 +5,3 @@ pub mod Content
 pub mod Ranges
 pub mod Meaning
 pub mod Listed
-pub mod Values

@@ -3,29 +3,34 @@
 ghost use Rattle.std.specs.Prelude.{◌≡◌, ◌&&◌, if◌then◌else◌, Some, None};
 ghost use Rattle.std.specs.Option.{option_map};
 ghost use Rattle.records.specs.States.{bytes_of};
-ghost use Rattle.records.specs.Content.{entry, live, cleared as cleared_at, is_live};
-ghost use Rattle.records.specs.Meaning.{cell_says, version_of};
-ghost use Rattle.records.specs.Ranges.{place_fits, stamp_fits, day_fits};
+ghost use Rattle.records.specs.Content.{live, cleared as cleared_at, is_live};
+ghost use Rattle.records.specs.Meaning.{cell_says, entry_at, place_in_range, version_of};
+ghost use Rattle.records.specs.Ranges.{stamp_fits, day_fits};
 
 use crate::cell::Cell;
+use crate::place::Place;
 use crate::range::{LAST_DAY, LAST_FIELD, LAST_PLOT, LAST_SECTION, LAST_STAMP, within};
 use crate::state::State;
 use crate::value::Value;
 
-fn place_fits(section: u16, plot: u32, field: u8) -> bool
-    ensures { result ≡ place_fits section plot field }
-{
-    within(1, section as u64, LAST_SECTION as u64)
-        && within(1, plot as u64, LAST_PLOT as u64)
-        && within(1, field as u64, LAST_FIELD as u64)
+impl Place {
+    // Whether its numbers are in range.
+    fn fits(self) -> bool
+        ensures { result ≡ place_in_range self }
+    {
+        within(1, self.plot.section, LAST_SECTION)
+            && within(1, self.plot.number, LAST_PLOT)
+            && within(1, self.field, LAST_FIELD)
+    }
 }
 
 impl Cell {
     /// A cell that holds a value, unless a number is out of its range.
-    pub fn live(section: u16, plot: u32, field: u8, stamp: u64, value: Value) -> Option<Cell>
-        ensures { option_map cell_says result ≡ (if place_fits section plot field && stamp_fits stamp then Some (entry section plot field (live stamp (bytes_of value))) else None) }
+    pub fn live(place: Place, stamp: u64, value: Value) -> Option<Cell>
+        ensures { option_map cell_says result ≡ (if place_in_range place && stamp_fits stamp then Some (entry_at place (live stamp (bytes_of value))) else None) }
     {
-        if !place_fits(section, plot, field) {
+        // A cell out of range cannot be made, so the tests come first: a `then` would only put it into a closure.
+        if !place.fits() {
             return None;
         }
         if !within(1, stamp, LAST_STAMP) {
@@ -33,50 +38,48 @@ impl Cell {
         }
         let state = State::Live(value);
         Some(Cell {
-            section,
-            plot,
-            field,
+            place,
             stamp,
             state,
         })
     }
 
     /// A cell that was cleared, unless a number is out of its range.
-    pub fn cleared(section: u16, plot: u32, field: u8, stamp: u64, day: u32) -> Option<Cell>
-        ensures { option_map cell_says result ≡ (if place_fits section plot field && (stamp_fits stamp && day_fits day) then Some (entry section plot field (cleared_at stamp day)) else None) }
+    // Its stamp is the cell's and its day the state's: the two are no `Tombstone`, which is a deletion's.
+    pub fn cleared(place: Place, stamp: u64, day: u32) -> Option<Cell>
+        ensures { option_map cell_says result ≡ (if place_in_range place && (stamp_fits stamp && day_fits day) then Some (entry_at place (cleared_at stamp day)) else None) }
     {
-        if !place_fits(section, plot, field) {
+        // Tests first, as in `live`; a maker of both from a state would be no plainer, since only this one has a day to test.
+        if !place.fits() {
             return None;
         }
-        if !(within(1, stamp, LAST_STAMP) && within(1, day as u64, LAST_DAY as u64)) {
+        if !(within(1, stamp, LAST_STAMP) && within(1, day, LAST_DAY)) {
             return None;
         }
         let state = State::Cleared(day);
         Some(Cell {
-            section,
-            plot,
-            field,
+            place,
             stamp,
             state,
         })
     }
 
     pub fn section(&self) -> u16
-        ensures { result ≡ self.now.section }
+        ensures { result ≡ self.now.place.plot.section }
     {
-        self.section
+        self.place.plot.section
     }
 
     pub fn plot(&self) -> u32
-        ensures { result ≡ self.now.plot }
+        ensures { result ≡ self.now.place.plot.number }
     {
-        self.plot
+        self.place.plot.number
     }
 
     pub fn field(&self) -> u8
-        ensures { result ≡ self.now.field }
+        ensures { result ≡ self.now.place.field }
     {
-        self.field
+        self.place.field
     }
 
     pub fn stamp(&self) -> u64
@@ -95,9 +98,6 @@ impl Cell {
     pub fn is_live(&self) -> bool
         ensures { result ≡ is_live (Some (version_of self.now)) }
     {
-        match self.state {
-            State::Live(_) => true,
-            State::Cleared(_) => false,
-        }
+        matches!(self.state, State::Live(_))
     }
 }

@@ -5,6 +5,8 @@ mod cell;
 mod cell_impl;
 mod deletion;
 mod deletion_impl;
+mod laws;
+mod place;
 pub mod range;
 mod record;
 mod state;
@@ -14,6 +16,8 @@ mod value_impl;
 
 pub use cell::Cell;
 pub use deletion::Deletion;
+pub use laws::laws_hold;
+pub use place::{Place, Plot};
 pub use record::Record;
 pub use state::State;
 pub use tombstone::Tombstone;

@@ -25,12 +25,14 @@ impl Value {
         ensures { option_map bytes_of result ≡ (if nat_le (length src.now) 23 then Some src.now else None) }
     {
         let n = src.len();
+        // A test first, as in `Cell::live`: `pad` and the invariant need what it tells.
         if n > 23 {
             return None;
         }
         let bytes = pad(src);
         Some(Value {
             bytes,
+            // The prover shows that it fits; `try_from` would test it a second time.
             len: n as u8,
         })
     }
@@ -38,7 +40,7 @@ impl Value {
     pub fn bytes(&self) -> &[u8]
         ensures { result.now ≡ bytes_of self.now }
     {
-        &self.bytes[..self.len as usize]
+        &self.bytes[..usize::from(self.len)]
     }
 
     /// Its bytes with zeros behind them.

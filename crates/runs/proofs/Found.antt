@@ -5,9 +5,11 @@ use Rattle.std.proofs.lemmas.Bool.Decides.{nat_tests}
 use Rattle.std.proofs.lemmas.Bool.{cases_eq, cases_order}
 use Rattle.records.specs.declared.deletion.Deletion.{Deletion}
 use Rattle.records.specs.declared.cell.Cell.{Cell}
+use Rattle.records.specs.declared.place.Place.{Place}
+use Rattle.records.specs.declared.place.Plot.{Plot}
 use Rattle.records.specs.Order.{upto}
 use Rattle.records.specs.Content.{Mutation, deletion, entry, one}
-use Rattle.records.specs.Meaning.{tombstone_of, version_of, deletion_says, cell_says}
+use Rattle.records.specs.Meaning.{tombstone_of, version_of, cover_on, deletion_says, cell_says}
 use Rattle.layout.specs.Pieces.{mutation_at}
 use Rattle.canon.specs.Run.{key_of}
 use Rattle.canon.specs.Spans.{spot}
@@ -15,14 +17,11 @@ use Rattle.canon.proofs.Pairs.{Pairs, run_says}
 use Rattle.canon.proofs.Runs.{run_span, run_cell}
 use Rattle.canon.proofs.Lookups.{Starts, member_at, cover_last, cover_none, cell_between}
 use Rattle.runs.specs.Records.{records_in, content_in}
-use Rattle.runs.specs.Opened.{RunBytes}
-use Rattle.runs.specs.Lookups.{FirstFrom, Over, DeletionOver, NextCell}
+use Rattle.runs.specs.RunBytes.{RunBytes}
+use Rattle.runs.specs.Lookups.{FirstFrom, Over, DeletionOver, spot_of, NextCell}
 use Rattle.runs.proofs.Pieces.{records_long, records_at}
 
 -- ---- keys of cells
-
-differ : {A : Type 0} {x : A} → ◌≡◌ {A = Option A} None (Some x) → ⊥
-differ e = let z : ◌≡◌ {A = ℕ} 0 1 = cc in omega arith
 
 -- a record from a cell's key on that is no cell of its section
 later_section : (x : Mutation) (s p f q g : ℕ) → upto (s ∷ 1 ∷ p ∷ f ∷ []) (key_of x) ≡ true → ((q g : ℕ) → (one x).cell s q g ≡ None) → upto (key_of x) (s ∷ 1 ∷ q ∷ g ∷ []) ≡ false
@@ -32,7 +31,7 @@ later_section (entry s' p' f' c) s p f q g h other = go (cases_eq s' s)
     go : (s' ≡ s) ⊎ (s' ≡ s → ⊥) → upto (s' ∷ 1 ∷ p' ∷ f' ∷ []) (s ∷ 1 ∷ q ∷ g ∷ []) ≡ false
     go (inl i) =
         let here : (eqb s s' && (eqb p' p' && eqb f' f')) ≡ true = grind (arith, nat_tests) in
-        absurd (differ (sym (other p' f') ∙ ap (λ v. cond v (Some c) None) here))
+        let none = sym (other p' f') ∙ ap (λ v. cond v (Some c) None) here in cc
     go (inr i) = grind (arith, nat_tests)
 
 earlier_place : (s p f q g : ℕ) → f < 256 → spot q g < spot p f → upto (s ∷ 1 ∷ p ∷ f ∷ []) (s ∷ 1 ∷ q ∷ g ∷ []) ≡ false
@@ -51,7 +50,7 @@ place_reached s p f q g t h = go (cases_order p q)
     go (inr (inl i)) = omega arith
     go (inr (inr i)) = absurd (grind (arith, nat_tests))
 
-module _ (bs : List ℕ) (e : RunBytes bs) where
+module _ {bs : List ℕ} (e : RunBytes bs) where
   pairs : Pairs (records_in bs)
   pairs = run_says (records_in bs) e.run
 
@@ -73,54 +72,54 @@ module _ (bs : List ℕ) (e : RunBytes bs) where
 
   -- ---- the deletion over a plot
 
-  pub none_over : (s p n : ℕ) → FirstFrom (s ∷ 0 ∷ p ∷ 1 ∷ []) bs n → n ≡ 0 → (content_in bs).cover s p ≡ None
-  none_over s p n h z = cover_none (records_in bs) (mutation_at bs 0) s p (subst (λ m. Starts (s ∷ 0 ∷ p ∷ 1 ∷ []) (records_in bs) (mutation_at bs 0) m) z (starts (s ∷ 0 ∷ p ∷ 1 ∷ []) n h))
+  pub none_over : {s p n : ℕ} → FirstFrom (s ∷ 0 ∷ p ∷ 1 ∷ []) bs n → n ≡ 0 → (content_in bs).cover s p ≡ None
+  none_over {s = s} {p = p} {n = n} h z = cover_none (records_in bs) (mutation_at bs 0) s p (subst (λ m. Starts (s ∷ 0 ∷ p ∷ 1 ∷ []) (records_in bs) (mutation_at bs 0) m) z (starts (s ∷ 0 ∷ p ∷ 1 ∷ []) n h))
 
   last_over : (s p n : ℕ) → FirstFrom (s ∷ 0 ∷ p ∷ 1 ∷ []) bs n → 0 < n → (content_in bs).cover s p ≡ (one (mutation_at bs (n - 1))).cover s p
   last_over s p n h l =
       cover_last (records_in bs) (mutation_at bs 0) s p n pairs (starts (s ∷ 0 ∷ p ∷ 1 ∷ []) n h) l
       ∙ ap (λ x. (one x).cover s p) (at (n - 1) (omega (arith, h.within)))
 
-  over_by : (s p k : ℕ) (d : Deletion) → k < length bs / 48 → mutation_at bs k ≡ deletion_says d → d.section ≡ s → d.first ≤ p → p ≤ d.last → Over (content_in bs) s p d
-  over_by s p k d l i q a b =
+  over_by : (p : Plot) (k : ℕ) (d : Deletion) → k < length bs / 48 → mutation_at bs k ≡ deletion_says d → d.section ≡ p.section → d.first ≤ p.number → p.number ≤ d.last → Over (content_in bs) p d
+  over_by p k d l i q a b =
       record {
         section = q;
         from = a;
         to = b;
-        span = run_span (records_in bs) s d.first d.last (tombstone_of d) pairs (member k _ l (i ∙ ap (λ w. deletion w d.first d.last (tombstone_of d)) q)) (omega arith);
+        span = run_span (records_in bs) p.section d.first d.last (tombstone_of d) pairs (member k _ l (i ∙ ap (λ w. deletion w d.first d.last (tombstone_of d)) q)) (omega arith);
       }
 
   -- together, of the record m before the n-th
-  pub over_from : (s p n : ℕ) (m : Mutation) (r : Option Deletion) → FirstFrom (s ∷ 0 ∷ p ∷ 1 ∷ []) bs n → 0 < n → m ≡ mutation_at bs (n - 1) → MatchOption r ((one m).cover s p ≡ None) (λ d. (m ≡ deletion_says d) × (d.section ≡ s) × (d.first ≤ p) × (p ≤ d.last)) → DeletionOver (content_in bs) s p r
-  over_from s p n m None h l i k = last_over s p n h l ∙ ap (λ x. (one x).cover s p) (sym i) ∙ k
-  over_from s p n m (Some d) h l i k = over_by s p (n - 1) d (omega (arith, h.within)) (sym i ∙ k.0) k.1 k.2 k.3
+  pub over_from : (p : Plot) {n : ℕ} {m : Mutation} (r : Option Deletion) → FirstFrom (p.section ∷ 0 ∷ p.number ∷ 1 ∷ []) bs n → 0 < n → m ≡ mutation_at bs (n - 1) → MatchOption r (cover_on (one m) p ≡ None) (λ d. (m ≡ deletion_says d) × (d.section ≡ p.section) × (d.first ≤ p.number) × (p.number ≤ d.last)) → DeletionOver (content_in bs) p r
+  over_from p {n = n} None h l i k = last_over p.section p.number n h l ∙ ap (λ x. cover_on (one x) p) (sym i) ∙ k
+  over_from p {n = n} (Some d) h l i k = over_by p (n - 1) d (omega (arith, h.within)) (sym i ∙ k.0) k.1 k.2 k.3
 
   -- ---- the first cell at or after a place
 
-  module _ (s p f n : ℕ) (small : f < 256) (h : FirstFrom (s ∷ 1 ∷ p ∷ f ∷ []) bs n) where
-    before : (q g : ℕ) → g < 256 → spot p f ≤ spot q g → (n < length bs / 48 → upto (key_of (mutation_at bs n)) (s ∷ 1 ∷ q ∷ g ∷ []) ≡ false) → (content_in bs).cell s q g ≡ None
+  module _ (p : Place) {n : ℕ} (small : p.field < 256) (h : FirstFrom (p.plot.section ∷ 1 ∷ p.plot.number ∷ p.field ∷ []) bs n) where
+    before : (q g : ℕ) → g < 256 → spot_of p ≤ spot q g → (n < length bs / 48 → upto (key_of (mutation_at bs n)) (p.plot.section ∷ 1 ∷ q ∷ g ∷ []) ≡ false) → (content_in bs).cell p.plot.section q g ≡ None
     before q g t l u =
         let long = records_long bs (length bs / 48) in
-        cell_between (records_in bs) (mutation_at bs 0) (s ∷ 1 ∷ p ∷ f ∷ []) s q g n pairs (starts (s ∷ 1 ∷ p ∷ f ∷ []) n h) (grind (arith, nat_tests))
-        (λ m. let m' : n < length bs / 48 = omega arith in subst (λ x. upto (key_of x) (s ∷ 1 ∷ q ∷ g ∷ []) ≡ false) (sym (at n m')) (u m'))
+        cell_between (records_in bs) (mutation_at bs 0) (p.plot.section ∷ 1 ∷ p.plot.number ∷ p.field ∷ []) p.plot.section q g n pairs (starts (p.plot.section ∷ 1 ∷ p.plot.number ∷ p.field ∷ []) n h) (grind (arith, nat_tests))
+        (λ m. let m' : n < length bs / 48 = omega arith in subst (λ x. upto (key_of x) (p.plot.section ∷ 1 ∷ q ∷ g ∷ []) ≡ false) (sym (at n m')) (u m'))
 
-    pub none_left : length bs / 48 ≤ n → NextCell (content_in bs) s p f None
+    pub none_left : length bs / 48 ≤ n → NextCell (content_in bs) p None
     none_left l = record { bare = λ q g t i a. before q g t i (λ m. absurd (omega arith)); found = tt }
 
     -- the record there is no cell of the section, so it belongs to a later one
-    none_here : n < length bs / 48 → ((q g : ℕ) → (one (mutation_at bs n)).cell s q g ≡ None) → NextCell (content_in bs) s p f None
-    none_here l other = record { bare = λ q g t i a. before q g t i (λ m. later_section (mutation_at bs n) s p f q g (h.above n (omega arith) l) other); found = tt }
+    none_here : n < length bs / 48 → ((q g : ℕ) → (one (mutation_at bs n)).cell p.plot.section q g ≡ None) → NextCell (content_in bs) p None
+    none_here l other = record { bare = λ q g t i a. before q g t i (λ m. later_section (mutation_at bs n) p.plot.section p.plot.number p.field q g (h.above n (omega arith) l) other); found = tt }
 
-    cell_here : (x : Cell) → n < length bs / 48 → mutation_at bs n ≡ cell_says x → x.section ≡ s → NextCell (content_in bs) s p f (Some x)
+    cell_here : (x : Cell) → n < length bs / 48 → mutation_at bs n ≡ cell_says x → x.place.plot.section ≡ p.plot.section → NextCell (content_in bs) p (Some x)
     cell_here x l i q =
-        let here : mutation_at bs n ≡ entry s x.plot x.field (version_of x) = i ∙ ap (λ w. entry w x.plot x.field (version_of x)) q in
-        let above : upto (s ∷ 1 ∷ p ∷ f ∷ []) (s ∷ 1 ∷ x.plot ∷ x.field ∷ []) ≡ true = subst (λ m. upto (s ∷ 1 ∷ p ∷ f ∷ []) (key_of m) ≡ true) here (h.above n (omega arith) l) in
+        let here : mutation_at bs n ≡ entry p.plot.section x.place.plot.number x.place.field (version_of x) = i ∙ ap (λ w. entry w x.place.plot.number x.place.field (version_of x)) q in
+        let above : upto (p.plot.section ∷ 1 ∷ p.plot.number ∷ p.field ∷ []) (p.plot.section ∷ 1 ∷ x.place.plot.number ∷ x.place.field ∷ []) ≡ true = subst (λ m. upto (p.plot.section ∷ 1 ∷ p.plot.number ∷ p.field ∷ []) (key_of m) ≡ true) here (h.above n (omega arith) l) in
         record {
-          bare = λ q' g t j a. before q' g t j (λ m. subst (λ m. upto (key_of m) (s ∷ 1 ∷ q' ∷ g ∷ []) ≡ false) (sym here) (earlier_place s x.plot x.field q' g (omega (arith, x.field_high)) a));
-          found = record { section = q; from = place_reached s p f x.plot x.field small above; cell = run_cell (records_in bs) s x.plot x.field (version_of x) pairs (member n _ l here) };
+          bare = λ q' g t j a. before q' g t j (λ m. subst (λ m. upto (key_of m) (p.plot.section ∷ 1 ∷ q' ∷ g ∷ []) ≡ false) (sym here) (earlier_place p.plot.section x.place.plot.number x.place.field q' g (omega (arith, x.field_high)) a));
+          found = record { section = q; from = place_reached p.plot.section p.plot.number p.field x.place.plot.number x.place.field small above; cell = run_cell (records_in bs) x.place.plot.section x.place.plot.number x.place.field (version_of x) pairs (member n _ l i) };
         }
 
     -- together, of the record m there
-    pub next_from : (m : Mutation) (r : Option Cell) → n < length bs / 48 → m ≡ mutation_at bs n → MatchOption r ((q g : ℕ) → (one m).cell s q g ≡ None) (λ x. (m ≡ cell_says x) × (x.section ≡ s)) → NextCell (content_in bs) s p f r
-    next_from m None l i k = none_here l (λ q g. ap (λ x. (one x).cell s q g) (sym i) ∙ k q g)
-    next_from m (Some x) l i k = cell_here x l (sym i ∙ k.0) k.1
+    pub next_from : {m : Mutation} (r : Option Cell) → n < length bs / 48 → m ≡ mutation_at bs n → MatchOption r ((q g : ℕ) → (one m).cell p.plot.section q g ≡ None) (λ x. (m ≡ cell_says x) × (x.place.plot.section ≡ p.plot.section)) → NextCell (content_in bs) p r
+    next_from None l i k = none_here l (λ q g. ap (λ x. (one x).cell p.plot.section q g) (sym i) ∙ k q g)
+    next_from (Some x) l i k = cell_here x l (sym i ∙ k.0) k.1

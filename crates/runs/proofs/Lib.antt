@@ -1,8 +1,9 @@
 pub mod Pieces
 pub mod Faults
 pub mod Again
-pub mod Checked
 pub mod Opened
-pub mod KeysRead
+pub mod Keys
+pub mod Followed
+pub mod Checked
 pub mod Searched
 pub mod Found

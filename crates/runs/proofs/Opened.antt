@@ -1,25 +1,25 @@
 -- What a run's fault, or its absence, says of the bytes.
-use Rattle.std.proofs.Common.{◌≡◌, ℕ, ◌+◌, ◌/◌, ◌%◌, ◌<◌, Bool, true, false, cond, eqb, List, length, Some, None, Ok, Err, Option, Result, sym, refl, ap, ◌∙◌, subst, arith, MatchResult}
+use Rattle.std.proofs.Common.{◌≡◌, ℕ, ◌+◌, ◌/◌, ◌%◌, ◌<◌, Bool, true, false, cond, eqb, List, length, Some, None, Option, sym, refl, ap, ◌∙◌, subst, arith}
 use Rattle.std.proofs.lemmas.Bool.Decides.{nat_tests}
 use Rattle.std.proofs.ByRecursion.{All-from_get_or}
-use Rattle.std.specs.Int.Digits.{AllBelowBase}
-use Rattle.std.specs.Result.{result_err}
+use Rattle.std.specs.List.{All}
 use Rattle.records.specs.Ranges.{in_range}
 use Rattle.layout.specs.declared.fault.RecordFault.{RecordFault}
 use Rattle.layout.specs.Layout.{fault_of}
 use Rattle.layout.specs.Pieces.{piece, mutation_at}
-use Rattle.canon.specs.Run.{is_run, InRange}
+use Rattle.canon.specs.Run.{is_run, IsRun, InRange}
 use Rattle.canon.proofs.Pairs.{all_holds}
 use Rattle.runs.specs.declared.fault.RunFault.{RunFault}
 use Rattle.runs.specs.declared.fault.RunFault.TheVariants.{Length, Record, Order}
 use Rattle.runs.specs.declared.fault.Disorder.{Disorder}
-use Rattle.runs.specs.Records.{records_to}
+use Rattle.runs.specs.Records.{records_to, records_in}
 use Rattle.runs.specs.Faults.{LawfulTo, disorder, fault_by, fault_at, earliest, run_fault}
-use Rattle.runs.specs.Opened.{RunBytes, FaultFrom, FaultOfRun}
-use Rattle.runs.proofs.Pieces.{lawful_range, records_long, records_at}
-use Rattle.runs.proofs.Faults.{first_found}
+use Rattle.runs.specs.RunBytes.{RunBytes, FaultFrom, FaultOfRun}
+use Rattle.runs.specs.declared.view.RecordView.{RecordView}
+use Rattle.runs.specs.Opened.{ViewAt}
+use Rattle.runs.proofs.Pieces.{mutation_is, lawful_range, records_long, records_at}
+use Rattle.runs.proofs.Faults.{first_found, run_so_far, lawful_so_far}
 use Rattle.runs.proofs.Again.{run_again}
-use Rattle.runs.proofs.Checked.{run_so_far, lawful_so_far}
 
 -- the first n records are in range
 ranged_so_far : (bs : List ℕ) (n : ℕ) → LawfulTo bs n → InRange (records_to bs n)
@@ -42,18 +42,20 @@ module _ (bs : List ℕ) (o : Option RunFault) (e : run_fault bs ≡ o) where
   first : eqb (length bs % 48) 0 ≡ true → earliest (fault_at bs) (length bs / 48) ≡ o
   first h = ap (λ b. cond b (earliest (fault_at bs) (length bs / 48)) (Some Length)) (sym h) ∙ unfolding-fault
 
-run_bytes_lem : (bs : List ℕ) → AllBelowBase 256 bs → run_fault bs ≡ None → RunBytes bs
+-- whole records, well-formed and in order
+pub run_of_bytes : (bs : List ℕ) → All (λ b. b < 256) bs → length bs % 48 ≡ 0 → LawfulTo bs (length bs / 48) → IsRun (records_in bs) → RunBytes bs
+run_of_bytes bs u whole lawful run =
+    let ranged = ranged_so_far bs (length bs / 48) lawful in
+    record { whole = whole; lawful = lawful; ranged = ranged; run = run; bytes = run_again bs u whole lawful ranged run }
+
+pub run_bytes_lem : (bs : List ℕ) → All (λ b. b < 256) bs → run_fault bs ≡ None → RunBytes bs
 run_bytes_lem bs u e = go (eqb (length bs % 48) 0) refl
   where
     go : (b : Bool) → eqb (length bs % 48) 0 ≡ b → RunBytes bs
-    go false h = absurd (let k = long bs None e h in let z : ◌≡◌ {A = ℕ} 0 1 = cc in omega arith)
+    go false h = absurd (let k = long bs None e h in cc)
     go true h =
         let f = first bs None e h in
-        let l = lawful_so_far bs (length bs / 48) f in
-        let whole : length bs % 48 ≡ 0 = grind (arith, nat_tests) in
-        let ranged = ranged_so_far bs (length bs / 48) l in
-        let run = run_so_far bs (length bs / 48) f in
-        record { whole = whole; lawful = l; ranged = ranged; run = run; bytes = run_again bs u whole l ranged run }
+        run_of_bytes bs u (grind (arith, nat_tests)) (lawful_so_far bs (length bs / 48) f) (run_so_far bs (length bs / 48) f)
 
 -- bytes that are not whole records
 pub length_fault : (bs : List ℕ) → (length bs % 48 ≡ 0 → ⊥) → run_fault bs ≡ Some Length
@@ -62,10 +64,10 @@ length_fault bs n = let t : eqb (length bs % 48) 0 ≡ false = grind (arith, nat
 
 by_some : (bs : List ℕ) (i : ℕ) (why : Disorder) (f : Option RecordFault) (run : Bool) (x : RunFault) → FaultFrom bs i → fault_of (piece bs i) ≡ f → is_run (records_to bs (i + 1)) ≡ run → fault_by i why f run ≡ Some x → FaultOfRun bs x
 by_some bs i why (Some g) run x from e k h = let is : Record (record { index = i; fault = g }) ≡ x = cc in subst (FaultOfRun bs) is (from, e)
-by_some bs i why None true x from e k h = absurd (let z : ◌≡◌ {A = ℕ} 0 1 = cc in omega arith)
+by_some bs i why None true x from e k h = cc
 by_some bs i why None false x from e k h =
     let is : Order i why ≡ x = cc in
-    subst (FaultOfRun bs) is (from, e, λ t. let z : ◌≡◌ {A = ℕ} 0 1 = cc in omega arith)
+    subst (FaultOfRun bs) is (from, e, λ t. cc)
 
 found_at : (bs : List ℕ) (i : ℕ) (x : RunFault) → FaultFrom bs i → fault_at bs i ≡ Some x → FaultOfRun bs x
 unfolding fault_at
@@ -83,6 +85,6 @@ fault_found bs x e = go (eqb (length bs % 48) 0) refl
         let (i, l, none, some) = first_found (fault_at bs) (length bs / 48) x (first bs (Some x) e h) in
         found_at bs i x (record { whole = grind (arith, nat_tests); within = l; lawful = lawful_so_far bs i none; run = run_so_far bs i none }) some
 
-pub means : {A : Type 0} (bs : List ℕ) (r : Result A RunFault) → AllBelowBase 256 bs → result_err r ≡ run_fault bs → MatchResult r (λ _. RunBytes bs) (λ f. FaultOfRun bs f)
-means bs (Ok x) u e = run_bytes_lem bs u (sym e)
-means bs (Err f) u e = fault_found bs f (sym e)
+-- a record where it lies
+pub view_at : (bs : List ℕ) (i : ℕ) (v : RecordView) → i < length bs / 48 → v.bytes.now ≡ piece bs i → v.index ≡ i → ViewAt bs i v
+view_at bs i v l e p = record { within = l; part = e; place = p; lawful = v.lawful; says = mutation_is bs i v.bytes.now e }

@@ -1,7 +1,9 @@
 -- Which bytes are a run, and what a run's fault is called.
-use Rattle.std.specs.Prelude.{◌≡◌, ℕ, zero, suc, ◌+◌, ◌/◌, ◌%◌, ◌<◌, Bool, cond, List, length, Some, None, Option, ◌==◌}
+use Rattle.std.specs.Prelude.{◌≡◌, ℕ, zero, suc, ◌+◌, ◌/◌, ◌%◌, ◌<◌, Bool, cond, List, [], ◌∷◌, ◌++◌, length, Some, None, Option, ◌==◌}
 use Rattle.records.specs.Content.{Mutation, deletion, entry}
 use Rattle.layout.specs.declared.fault.RecordFault.{RecordFault}
+use Rattle.layout.specs.declared.fault.Reason.TheVariants as reason
+use Rattle.layout.specs.declared.fault.Layer.TheVariants as layer
 use Rattle.layout.specs.declared.fault.Refusal.{Refusal}
 use Rattle.layout.specs.Faults.{refusal_of}
 use Rattle.layout.specs.Layout.{fault_of}
@@ -21,6 +23,10 @@ clash_of (entry s p f c) = Covered
 -- why a record may not follow these
 unfoldable pub disorder : List Mutation → Mutation → Disorder
 disorder xs m = cond (all (λ x. ascends x m) xs) (clash_of m) Unsorted
+
+-- why a well-formed record may not follow these, if it may not
+abbrev pub order_fault : List Mutation → Mutation → Option RunFault
+order_fault xs m = cond (is_run (xs ++ m ∷ [])) None (Some (Order (length xs) (disorder xs m)))
 
 -- a malformed record's fault; else whether the records up to it, with it, form a run
 abbrev pub fault_by : ℕ → Disorder → Option RecordFault → Bool → Option RunFault
@@ -46,10 +52,10 @@ run_fault bs = cond (length bs % 48 == 0) (earliest (fault_at bs) (length bs / 4
 
 -- 1 length, 3 order and 4 empty of layer 2; a record's own number, layer and byte, with its index
 abbrev pub refusal_of_run : RunFault → Refusal
-refusal_of_run Length = record { number = 1; layer = 2; index = 0; byte = 0 }
+refusal_of_run Length = record { number = reason.Length; layer = layer.Run; index = 0; byte = 0 }
 refusal_of_run (Record f) = record { number = (refusal_of f.fault).number; layer = (refusal_of f.fault).layer; index = f.index; byte = (refusal_of f.fault).byte }
-refusal_of_run (Order i why) = record { number = 3; layer = 2; index = i; byte = 0 }
-refusal_of_run Empty = record { number = 4; layer = 2; index = 0; byte = 0 }
+refusal_of_run (Order i why) = record { number = reason.Order; layer = layer.Run; index = i; byte = 0 }
+refusal_of_run Empty = record { number = reason.Empty; layer = layer.Run; index = 0; byte = 0 }
 
 -- none of the first n records has a fault of its own
 pub record LawfulTo (bs : List ℕ) (n : ℕ) : Type 0 where

@@ -1,14 +1,14 @@
 use layout::RecordFault;
 
 /// The fault of a record, and the record's index.
-#[derive(Clone, Copy, PartialEq, Debug)]
+#[derive(Clone, Copy, PartialEq, Eq, Debug)]
 pub struct FaultAt {
     pub index: usize,
     pub fault: RecordFault,
 }
 
 /// Why a record may not follow those before it.
-#[derive(Clone, Copy, PartialEq, Debug)]
+#[derive(Clone, Copy, PartialEq, Eq, Debug)]
 pub enum Disorder {
     /// It does not come after each of them by section, deletion before cell, first plot and field.
     Unsorted,
@@ -19,7 +19,7 @@ pub enum Disorder {
 }
 
 /// Why bytes are no run, or none that is wanted.
-#[derive(Clone, Copy, PartialEq, Debug)]
+#[derive(Clone, Copy, PartialEq, Eq, Debug)]
 pub enum RunFault {
     /// They are no multiple of 48.
     Length,

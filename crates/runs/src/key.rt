@@ -1,24 +1,23 @@
 //! The keys of records: what a run goes by.
 
-ghost use Rattle.std.specs.Prelude.{◌≡◌, if◌then◌else◌, None, nat_eq};
-ghost use Rattle.records.specs.Order.{upto};
+ghost use Rattle.std.specs.Prelude.{◌≡◌, [], ◌∷◌};
 ghost use Rattle.records.specs.Meaning.{says};
-ghost use Rattle.layout.specs.Layout.{row_at, mutation_in, fault_of};
+ghost use Rattle.layout.specs.Layout.{row_at, mutation_in};
 ghost use Rattle.canon.specs.Run.{key_of};
-ghost use Rattle.runs.specs.Keys.{class_of, numbers_of};
+ghost use Rattle.runs.specs.Keys.{numbers_of};
 
-use layout::Part;
-use records::Record;
+use layout::{Kind, Part};
+use records::{Place, Record};
 
 /// Deletions come before cells.
-#[derive(Clone, Copy, PartialEq)]
+#[derive(Clone, Copy, PartialEq, Eq, PartialOrd, Ord)]
 pub(crate) enum Class {
-    Deletion = 0,
-    Cell = 1,
+    Deletion,
+    Cell,
 }
 
-/// What the records of a run go by: section, class, first plot and field.
-#[derive(Clone, Copy)]
+/// What the records of a run go by: section, class, first plot and field, in this order.
+#[derive(Clone, Copy, PartialEq, Eq, PartialOrd, Ord)]
 pub(crate) struct Key {
     pub(crate) section: u16,
     pub(crate) class: Class,
@@ -26,22 +25,25 @@ pub(crate) struct Key {
     pub(crate) field: u8,
 }
 
-// Kind 1 is a deletion.
-fn class_of(kind: u8) -> Class
-    ensures { class_of result ≡ (if nat_eq kind 1 then 0 else 1) }
-{
-    if kind == 1 {
-        Class::Deletion
-    } else {
-        Class::Cell
+// The key of the cell at a place.
+impl From<Place> for Key {
+    ghost from_gives = { λ p key. numbers_of key ≡ p.plot.section ∷ 1 ∷ p.plot.number ∷ p.field ∷ [] };
+
+    fn from(place: Place) -> Key {
+        Key {
+            section: place.plot.section,
+            class: Class::Cell,
+            first: place.plot.number,
+            field: place.field,
+        }
     }
 }
 
-impl Key {
-    // The key of a record.
-    pub(crate) fn of(record: &Record) -> Key
-        ensures { numbers_of result ≡ key_of (says «record».now) }
-    {
+// The key of a record.
+impl From<&Record> for Key {
+    ghost from_gives = { λ r key. numbers_of key ≡ key_of (says r.now) };
+
+    fn from(record: &Record) -> Key {
         match record {
             Record::Deletion(d) => Key {
                 section: d.section(),
@@ -49,43 +51,28 @@ impl Key {
                 first: d.first(),
                 field: 0,
             },
-            Record::Cell(c) => Key {
-                section: c.section(),
-                class: Class::Cell,
-                first: c.plot(),
-                field: c.field(),
-            },
+            Record::Cell(c) => c.place().into(),
         }
     }
+}
 
-    // The key of the record that bytes write, read from where it stands there.
-    pub(crate) fn read(b: &[u8]) -> Key
-        requires { fault_of b.now ≡ None }
+impl Key {
+    // The key of what 48 bytes write, lawful or not, read from where it stands there. Not a `From`, which would be no plainer:
+    // it reads a part of them. `as` is the plainest word for the number of a part, and `first_chunk` for its bytes.
+    pub(crate) fn read(b: &[u8; 48]) -> Key
         ensures { numbers_of result ≡ key_of (mutation_in (row_at b.now)) }
     {
-        let section = Part::Section as usize;
-        let first = Part::FirstPlot as usize;
+        let (class, field) = match Kind::try_from(b[Part::Kind as usize]) {
+            Ok(Kind::Deletion) => (Class::Deletion, 0),
+            _ => (Class::Cell, b[Part::Field as usize]),
+        };
+        let section = b[Part::Section as usize..].first_chunk().unwrap();
+        let first = b[Part::FirstPlot as usize..].first_chunk().unwrap();
         Key {
-            section: u16::from_be_bytes([b[section], b[section + 1]]),
-            class: class_of(b[Part::Kind as usize]),
-            first: u32::from_be_bytes([b[first], b[first + 1], b[first + 2], b[first + 3]]),
-            field: b[Part::Field as usize],
+            section: u16::from_be_bytes(*section),
+            class,
+            first: u32::from_be_bytes(*first),
+            field,
         }
-    }
-
-    // Whether it is no greater than another.
-    pub(crate) fn upto(&self, other: &Key) -> bool
-        ensures { result ≡ upto (numbers_of self.now) (numbers_of other.now) }
-    {
-        if self.section != other.section {
-            return self.section < other.section;
-        }
-        if self.class != other.class {
-            return self.class == Class::Deletion;
-        }
-        if self.first != other.first {
-            return self.first < other.first;
-        }
-        self.field <= other.field
     }
 }

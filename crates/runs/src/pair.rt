@@ -5,7 +5,7 @@ ghost use Rattle.records.specs.Meaning.{says, deletion_says};
 ghost use Rattle.canon.specs.Run.{ascends as is_ascending, apart as is_apart};
 ghost use Rattle.canon.specs.Check.{Passed};
 
-use crate::key::{Class, Key};
+use crate::key::Key;
 use reconcile::covers;
 use records::{Deletion, Record};
 
@@ -13,30 +13,26 @@ use records::{Deletion, Record};
 pub(crate) fn ascends(x: &Record, y: &Record) -> bool
     ensures { result ≡ is_ascending (says x.now) (says y.now) }
 {
-    !Key::of(y).upto(&Key::of(x))
+    Key::from(x) < Key::from(y)
 }
 
 // Whether two deletions, the first with the lesser key, neither overlap nor touch with the same stamp and day.
 fn deletions_apart(x: &Deletion, y: &Deletion) -> bool
     ensures { result ≡ is_apart (deletion_says x.now) (deletion_says y.now) }
 {
-    if x.section() != y.section() {
-        return true;
-    }
     let touching = x.last() + 1 == y.first();
-    x.last() < y.first() && !(touching && x.tombstone() == y.tombstone())
+    x.section() != y.section()
+        || x.last() < y.first() && !(touching && x.tombstone() == y.tombstone())
 }
 
 // Whether x leaves y, which has the greater key, its place.
 pub(crate) fn apart(x: &Record, y: &Record) -> bool
     ensures { result ≡ is_apart (says x.now) (says y.now) }
 {
-    match x {
-        Record::Deletion(d) => match y {
-            Record::Deletion(e) => deletions_apart(d, e),
-            Record::Cell(c) => !covers(d, c),
-        },
-        Record::Cell(_) => true,
+    match (x, y) {
+        (Record::Deletion(d), Record::Deletion(e)) => deletions_apart(d, e),
+        (Record::Deletion(d), Record::Cell(c)) => !covers(d, c),
+        (Record::Cell(_), _) => true,
     }
 }
 
@@ -44,12 +40,8 @@ pub(crate) fn apart(x: &Record, y: &Record) -> bool
 pub(crate) fn passed(x: &Record, y: &Record) -> bool
     ensures { Decides result (Passed (says x.now) (says y.now)) }
 {
-    let (a, b) = (Key::of(x), Key::of(y));
-    if a.section != b.section {
-        return a.section < b.section;
-    }
-    match x {
-        Record::Deletion(d) => b.class == Class::Cell && d.last() < b.first,
-        Record::Cell(_) => false,
+    match (x, y) {
+        (Record::Deletion(d), Record::Cell(c)) if d.section() == c.section() => d.last() < c.plot(),
+        _ => Key::from(x).section < Key::from(y).section,
     }
 }

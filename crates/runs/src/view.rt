@@ -12,6 +12,7 @@ use records::Record;
 pub struct RecordView<'a> {
     pub(crate) bytes: &'a [u8],
     pub(crate) index: usize,
+    pub ghost lawful: { fault_of bytes.now ≡ None },
 }
 
 impl<'a> RecordView<'a> {
@@ -31,7 +32,6 @@ impl<'a> RecordView<'a> {
 
     /// The record itself.
     pub fn record(&self) -> Record
-        requires { fault_of self.now.bytes.now ≡ None }
         ensures { says result ≡ mutation_in (row_at self.now.bytes.now) }
     {
         decode_lawful(self.bytes)

@@ -1,48 +1,55 @@
 //! A fault in words.
 
-ghost use Rattle.std.specs.Prelude.{◌≡◌, IfOk, string_bytes};
-ghost use Rattle.wording.specs.Words.{part_text, length_text, malformed_text, fault_text};
+ghost use Rattle.std.specs.Prelude.{Some};
+ghost use Rattle.wording.specs.Words.{part_text, refused_text, fault_text};
 
+use crate::words::Words;
 use layout::{Part, RecordFault, Refusal};
-use std::alloc::{AllocError, Global};
+use std::fmt;
 
-fn part_name(part: Part) -> &'static str
-    ensures { result.now ≡ part_text part }
-{
-    match part {
-        Part::Kind => "kind",
-        Part::Field => "field",
-        Part::Section => "section",
-        Part::FirstPlot => "first plot",
-        Part::LastPlot => "last plot",
-        Part::Stamp => "stamp",
-        Part::Day => "day",
-        Part::ValueLength => "value length",
-        Part::Value => "value",
+impl fmt::Display for Words<Part> {
+    ghost output = { λ w. Some (part_text w.0) };
+
+    fn fmt<W: fmt::Write>(&self, f: &mut fmt::Formatter<W>) -> fmt::Result {
+        f.write_str(match self.0 {
+            Part::Kind => "kind",
+            Part::Field => "field",
+            Part::Section => "section",
+            Part::FirstPlot => "first plot",
+            Part::LastPlot => "last plot",
+            Part::Stamp => "stamp",
+            Part::Day => "day",
+            Part::ValueLength => "value length",
+            Part::Value => "value",
+        })
     }
 }
 
-fn length_line(heap: Global, refusal: Refusal) -> Result<String, AllocError>
-    ensures { IfOk result (λ s. string_bytes s ≡ length_text refusal) }
-{
-    let number = refusal.number;
-    format!(in heap; "refused, {number} length: not 48 bytes")
+// How a refusal begins.
+impl fmt::Display for Words<Refusal> {
+    ghost output = { λ w. Some (refused_text w.0) };
+
+    fn fmt<W: fmt::Write>(&self, f: &mut fmt::Formatter<W>) -> fmt::Result {
+        write!(f, "refused, {}", u8::from(self.0.number))
+    }
 }
 
-fn malformed_line(heap: Global, refusal: Refusal, part: &str) -> Result<String, AllocError>
-    ensures { IfOk result (λ s. string_bytes s ≡ malformed_text refusal part.now) }
-{
-    let number = refusal.number;
-    let byte = refusal.byte;
-    format!(in heap; "refused, {number} malformed at byte {byte}: {part}")
-}
+impl fmt::Display for Words<RecordFault> {
+    ghost output = { λ w. Some (fault_text w.0) };
 
-pub(crate) fn fault_text(heap: Global, fault: RecordFault) -> Result<String, AllocError>
-    ensures { IfOk result (λ s. string_bytes s ≡ fault_text fault) }
-{
-    let refusal = fault.refusal();
-    match fault {
-        RecordFault::Length => length_line(heap, refusal),
-        RecordFault::Malformed(part) => malformed_line(heap, refusal, part_name(part)),
+    fn fmt<W: fmt::Write>(&self, f: &mut fmt::Formatter<W>) -> fmt::Result {
+        let refusal = self.0.refusal();
+        let refused = Words(refusal);
+        match self.0 {
+            RecordFault::Length => write!(f, "{refused} length: not 48 bytes"),
+            RecordFault::Malformed(part) => {
+                write!(
+                    f,
+                    "{refused} malformed at byte {}: {}",
+                    refusal.byte,
+                    Words(part)
+                )
+            }
+        }
     }
 }

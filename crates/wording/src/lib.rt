@@ -6,6 +6,7 @@ mod line;
 mod record;
 mod run;
 mod value;
+mod words;
 
 pub use line::{record_line, section_line};
 pub use run::run_line;

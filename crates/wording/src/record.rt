@@ -1,110 +1,68 @@
 //! A record in words.
 
-ghost use Rattle.std.specs.Prelude.{◌≡◌, ◌++◌, IfOk, string_bytes, codes};
+ghost use Rattle.std.specs.Prelude.{Some};
 ghost use Rattle.records.specs.Meaning.{says, deletion_says, cell_says};
-ghost use Rattle.records.specs.States.{bytes_of, rank_of, day_of, value_of};
-ghost use Rattle.wording.specs.Words.{value_text, plots_text, place_text, kind_text, state_text, deletion_text, cell_text, record_text};
+ghost use Rattle.records.specs.States.{rank_of, day_of, value_of};
+ghost use Rattle.wording.specs.Words.{state_text, record_text};
 
-use crate::value::value_text;
-use records::{Cell, Deletion, Record, State, Tombstone, Value};
-use std::alloc::{AllocError, Global};
+use crate::words::Words;
+use records::{Cell, Deletion, Record, State};
+use std::fmt;
 
-fn plots_text(heap: Global, deletion: &Deletion) -> Result<String, AllocError>
-    ensures { IfOk result (λ s. string_bytes s ≡ plots_text deletion.now.section deletion.now.first deletion.now.last) }
-{
-    let section = deletion.section();
-    let first = deletion.first();
-    let last = deletion.last();
-    format!(in heap; "section {section}, plots {first} to {last}")
-}
+impl fmt::Display for Words<Deletion> {
+    ghost output = { λ w. Some (record_text (deletion_says w.0)) };
 
-fn deletion_line(heap: Global, plots: &str, tombstone: Tombstone) -> Result<String, AllocError>
-    ensures { IfOk result (λ s. string_bytes s ≡ deletion_text plots.now tombstone) }
-{
-    let stamp = tombstone.stamp;
-    let day = tombstone.day;
-    format!(in heap; "deletion, {plots}, stamp {stamp}, day {day}")
-}
-
-fn deletion_text(heap: Global, deletion: &Deletion) -> Result<String, AllocError>
-    ensures { IfOk result (λ s. string_bytes s ≡ record_text (deletion_says deletion.now)) }
-{
-    let plots = plots_text(heap, deletion)?;
-    deletion_line(heap, plots.as_str(), deletion.tombstone())
-}
-
-fn place_text(heap: Global, cell: &Cell) -> Result<String, AllocError>
-    ensures { IfOk result (λ s. string_bytes s ≡ place_text cell.now.section cell.now.plot cell.now.field) }
-{
-    let section = cell.section();
-    let plot = cell.plot();
-    let field = cell.field();
-    format!(in heap; "section {section}, plot {plot}, field {field}")
-}
-
-fn kind_name(state: &State) -> &'static str
-    ensures { result.now ≡ kind_text (rank_of state.now) }
-{
-    match state {
-        State::Live(_) => "live",
-        State::Cleared(_) => "cleared",
+    fn fmt<W: fmt::Write>(&self, f: &mut fmt::Formatter<W>) -> fmt::Result {
+        let deletion = self.0;
+        let tombstone = deletion.tombstone();
+        write!(
+            f,
+            "deletion, section {}, plots {} to {}, stamp {}, day {}",
+            deletion.section(),
+            deletion.first(),
+            deletion.last(),
+            tombstone.stamp,
+            tombstone.day,
+        )
     }
 }
 
-fn value_line(heap: Global, value: &str) -> Result<String, AllocError>
-    ensures { IfOk result (λ s. string_bytes s ≡ codes "value " ++ value.now) }
-{
-    format!(in heap; "value {value}")
-}
+impl fmt::Display for Words<State> {
+    ghost output = { λ w. Some (state_text (rank_of w.0) (day_of w.0) (value_of w.0)) };
 
-fn live_text(heap: Global, value: &Value) -> Result<String, AllocError>
-    ensures { IfOk result (λ s. string_bytes s ≡ codes "value " ++ value_text (bytes_of value.now)) }
-{
-    let text = value_text(heap, value.bytes())?;
-    value_line(heap, text.as_str())
-}
-
-fn state_text(heap: Global, state: &State) -> Result<String, AllocError>
-    ensures { IfOk result (λ s. string_bytes s ≡ state_text (rank_of state.now) (day_of state.now) (value_of state.now)) }
-{
-    match state {
-        State::Live(value) => live_text(heap, value),
-        State::Cleared(day) => format!(in heap; "day {day}"),
+    fn fmt<W: fmt::Write>(&self, f: &mut fmt::Formatter<W>) -> fmt::Result {
+        match self.0 {
+            State::Live(value) => write!(f, "value {}", Words(value)),
+            State::Cleared(day) => write!(f, "day {day}"),
+        }
     }
 }
 
-fn cell_line(
-    heap: Global,
-    kind: &str,
-    place: &str,
-    stamp: u64,
-    state: &str,
-) -> Result<String, AllocError>
-    ensures { IfOk result (λ s. string_bytes s ≡ cell_text kind.now place.now stamp state.now) }
-{
-    format!(in heap; "{kind} cell, {place}, stamp {stamp}, {state}")
+impl fmt::Display for Words<Cell> {
+    ghost output = { λ w. Some (record_text (cell_says w.0)) };
+
+    fn fmt<W: fmt::Write>(&self, f: &mut fmt::Formatter<W>) -> fmt::Result {
+        let cell = self.0;
+        let kind = if cell.is_live() { "live" } else { "cleared" };
+        write!(
+            f,
+            "{kind} cell, section {}, plot {}, field {}, stamp {}, {}",
+            cell.section(),
+            cell.plot(),
+            cell.field(),
+            cell.stamp(),
+            Words(cell.state()),
+        )
+    }
 }
 
-fn cell_text(heap: Global, cell: &Cell) -> Result<String, AllocError>
-    ensures { IfOk result (λ s. string_bytes s ≡ record_text (cell_says cell.now)) }
-{
-    let held = cell.state();
-    let place = place_text(heap, cell)?;
-    let state = state_text(heap, &held)?;
-    cell_line(
-        heap,
-        kind_name(&held),
-        place.as_str(),
-        cell.stamp(),
-        state.as_str(),
-    )
-}
+impl fmt::Display for Words<Record> {
+    ghost output = { λ w. Some (record_text (says w.0)) };
 
-pub(crate) fn record_text(heap: Global, record: &Record) -> Result<String, AllocError>
-    ensures { IfOk result (λ s. string_bytes s ≡ record_text (says «record».now)) }
-{
-    match record {
-        Record::Deletion(deletion) => deletion_text(heap, deletion),
-        Record::Cell(cell) => cell_text(heap, cell),
+    fn fmt<W: fmt::Write>(&self, f: &mut fmt::Formatter<W>) -> fmt::Result {
+        match self.0 {
+            Record::Deletion(deletion) => Words(deletion).fmt(f),
+            Record::Cell(cell) => Words(cell).fmt(f),
+        }
     }
 }

@@ -1,83 +1,45 @@
 //! A run in words.
 
-ghost use Rattle.std.specs.Prelude.{◌≡◌, IfOk, string_bytes};
-ghost use Rattle.wording.specs.Words.{fault_text};
-ghost use Rattle.wording.specs.RunWords.{disorder_text, order_text, whole_text, at_record_text, run_fault_text, length_of_run_text, run_line};
+ghost use Rattle.std.specs.Prelude.{◌≡◌, IfOk, string_bytes, Some};
+ghost use Rattle.wording.specs.RunWords.{disorder_text, run_fault_text, run_line};
 
-use crate::fault::fault_text;
-use layout::{RecordFault, Refusal};
+use crate::words::Words;
 use runs::{Disorder, Run, RunFault};
 use std::alloc::{AllocError, Global};
+use std::fmt;
 
-fn disorder_name(why: Disorder) -> &'static str
-    ensures { result.now ≡ disorder_text why }
-{
-    match why {
-        Disorder::Unsorted => {
-            "it does not come after the one before it by section, deletion before cell, plot and field"
-        }
-        Disorder::Spans => {
-            "it overlaps a deletion before it, or goes on where one of the same stamp and day ends"
-        }
-        Disorder::Covered => "a deletion before it covers it",
+impl fmt::Display for Words<Disorder> {
+    ghost output = { λ w. Some (disorder_text w.0) };
+
+    fn fmt<W: fmt::Write>(&self, f: &mut fmt::Formatter<W>) -> fmt::Result {
+        f.write_str(match self.0 {
+            Disorder::Unsorted => {
+                "it does not come after the one before it by section, deletion before cell, plot and field"
+            }
+            Disorder::Spans => {
+                "it overlaps a deletion before it, or goes on where one of the same stamp and day ends"
+            }
+            Disorder::Covered => "a deletion before it covers it",
+        })
     }
 }
 
-fn whole_line(heap: Global, refusal: Refusal, what: &str) -> Result<String, AllocError>
-    ensures { IfOk result (λ s. string_bytes s ≡ whole_text refusal what.now) }
-{
-    let number = refusal.number;
-    format!(in heap; "no run: refused, {number} {what}")
-}
+impl fmt::Display for Words<RunFault> {
+    ghost output = { λ w. Some (run_fault_text w.0) };
 
-fn order_text(heap: Global, refusal: Refusal, why: &str) -> Result<String, AllocError>
-    ensures { IfOk result (λ s. string_bytes s ≡ order_text refusal why.now) }
-{
-    let number = refusal.number;
-    format!(in heap; "refused, {number} order: {why}")
-}
-
-fn at_record(heap: Global, refusal: Refusal, text: &str) -> Result<String, AllocError>
-    ensures { IfOk result (λ s. string_bytes s ≡ at_record_text refusal text.now) }
-{
-    let index = refusal.index;
-    format!(in heap; "no run, record {index}: {text}")
-}
-
-fn record_fault_line(
-    heap: Global,
-    refusal: Refusal,
-    fault: RecordFault,
-) -> Result<String, AllocError>
-    ensures { IfOk result (λ s. string_bytes s ≡ at_record_text refusal (fault_text fault)) }
-{
-    let text = fault_text(heap, fault)?;
-    at_record(heap, refusal, text.as_str())
-}
-
-fn order_line(heap: Global, refusal: Refusal, why: Disorder) -> Result<String, AllocError>
-    ensures { IfOk result (λ s. string_bytes s ≡ at_record_text refusal (order_text refusal (disorder_text why))) }
-{
-    let text = order_text(heap, refusal, disorder_name(why))?;
-    at_record(heap, refusal, text.as_str())
-}
-
-fn run_fault_line(heap: Global, fault: RunFault) -> Result<String, AllocError>
-    ensures { IfOk result (λ s. string_bytes s ≡ run_fault_text fault) }
-{
-    let refusal = fault.refusal();
-    match fault {
-        RunFault::Length => whole_line(heap, refusal, "length: not a multiple of 48 bytes"),
-        RunFault::Record(at) => record_fault_line(heap, refusal, at.fault),
-        RunFault::Order { why, .. } => order_line(heap, refusal, why),
-        RunFault::Empty => whole_line(heap, refusal, "empty: no records"),
+    fn fmt<W: fmt::Write>(&self, f: &mut fmt::Formatter<W>) -> fmt::Result {
+        let refused = Words(self.0.refusal());
+        match self.0 {
+            RunFault::Length => {
+                write!(f, "no run: {refused} length: not a multiple of 48 bytes")
+            }
+            RunFault::Record(at) => write!(f, "no run, record {}: {}", at.index, Words(at.fault)),
+            RunFault::Order { index, why } => {
+                write!(f, "no run, record {index}: {refused} order: {}", Words(why))
+            }
+            RunFault::Empty => write!(f, "no run: {refused} empty: no records"),
+        }
     }
-}
-
-fn length_of_run(heap: Global, records: usize) -> Result<String, AllocError>
-    ensures { IfOk result (λ s. string_bytes s ≡ length_of_run_text records) }
-{
-    format!(in heap; "a run, records: {records}")
 }
 
 /// Whether bytes are a run: how many records it has, or why they are none.
@@ -85,7 +47,7 @@ pub fn run_line(heap: Global, opened: Result<Run<'_>, RunFault>) -> Result<Strin
     ensures { IfOk result (λ s. string_bytes s ≡ run_line opened.entry) }
 {
     match opened {
-        Ok(run) => length_of_run(heap, run.len()),
-        Err(fault) => run_fault_line(heap, fault),
+        Ok(run) => format!(in heap; "a run, records: {}", run.len()),
+        Err(fault) => Words(fault).to_string(heap),
     }
 }

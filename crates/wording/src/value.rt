@@ -1,73 +1,44 @@
 //! A value in words.
 
-ghost use Rattle.std.specs.Prelude.{◌≡◌, ◌<◌, false, ◌++◌, IfOk, string_bytes, codes};
-ghost use Rattle.std.specs.Fmt.{digit_glyph};
-ghost use Rattle.wording.specs.Words.{is_plain, all_plain, hex_of, quoted_text, value_text};
+ghost use Rattle.std.specs.Prelude.{◌≡◌, if◌then◌else◌, Some, None};
+ghost use Rattle.std.specs.Option.{option_map};
+ghost use Rattle.std.specs.List.{list_all};
+ghost use Rattle.records.specs.States.{bytes_of};
+ghost use Rattle.wording.specs.Words.{is_plain, value_text};
 
-use std::alloc::{AllocError, Global};
+use crate::words::Words;
+use records::Value;
+use std::{fmt, str};
 
 // Whether a byte is printed as it is: ASCII from space to tilde, but for the quote and the backslash.
 fn is_plain(b: u8) -> bool
     ensures { result ≡ is_plain b }
 {
-    b >= 32 && b <= 126 && b != 34 && b != 92
+    matches!(b, b' '..=b'~') && !matches!(b, b'"' | b'\\')
 }
 
-fn all_plain(bytes: &[u8]) -> bool
-    ensures { result ≡ all_plain bytes.now }
+// The bytes as text, where each is printed as it is.
+fn plain_text(bytes: &[u8]) -> Option<&str>
+    ensures { option_map (λ text. text.now) result ≡ (if list_all is_plain bytes.now then Some bytes.now else None) }
 {
-    for b in bytes {
-        if !is_plain(*b) {
-            return false;
-        }
-    }
-    true
-}
-
-fn hex_digit(n: u8) -> char
-    requires { n < 16 }
-    ensures { result ≡ digit_glyph false n }
-{
-    if n < 10 {
-        char::from(48 + n)
-    } else {
-        char::from(87 + n)
-    }
-}
-
-fn hex_text(heap: Global, bytes: &[u8]) -> Result<String, AllocError>
-    ensures { IfOk result (λ s. string_bytes s ≡ hex_of bytes.now) }
-{
-    let mut digits = String::new(heap);
-    for b in bytes {
-        digits.push(hex_digit(*b / 16))?;
-        digits.push(hex_digit(*b % 16))?;
-    }
-    Ok(digits)
-}
-
-fn hex_line(heap: Global, digits: &str) -> Result<String, AllocError>
-    ensures { IfOk result (λ s. string_bytes s ≡ codes "0x" ++ digits.now) }
-{
-    format!(in heap; "0x{digits}")
-}
-
-fn quoted(heap: Global, text: &str) -> Result<String, AllocError>
-    ensures { IfOk result (λ s. string_bytes s ≡ quoted_text text.now) }
-{
-    format!(in heap; "\"{text}\"")
+    let text = str::from_utf8(bytes).ok()?;
+    bytes.iter().all(|b| is_plain(*b)).then_some(text)
 }
 
 // The value in quotes, or in hex where it has a byte that is not printed as it is.
-pub(crate) fn value_text(heap: Global, bytes: &[u8]) -> Result<String, AllocError>
-    ensures { IfOk result (λ s. string_bytes s ≡ value_text bytes.now) }
-{
-    if !all_plain(bytes) {
-        let digits = hex_text(heap, bytes)?;
-        return hex_line(heap, digits.as_str());
+impl fmt::Display for Words<Value> {
+    ghost output = { λ w. Some (value_text (bytes_of w.0)) };
+
+    fn fmt<W: fmt::Write>(&self, f: &mut fmt::Formatter<W>) -> fmt::Result {
+        let bytes = self.0.bytes();
+        if let Some(text) = plain_text(bytes) {
+            return write!(f, "\"{text}\"");
+        }
+        f.write_str("0x")?;
+        // As a `try_for_each` it did not prove (`returns-clause-writes`): what its closure writes into `f` is not known behind it.
+        for b in bytes {
+            write!(f, "{b:02x}")?;
+        }
+        Ok(())
     }
-    let Ok(text) = std::str::from_utf8(bytes) else {
-        unreachable()
-    };
-    quoted(heap, text)
 }

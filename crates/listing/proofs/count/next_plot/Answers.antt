@@ -1,15 +1,18 @@
-use Rattle.std.proofs.Common.{arith}
-use Rattle.listing.proofs.Keys.{plot_none, plot_far, plot_next, key_after}
+use Rattle.std.proofs.Common.{ltb, sym, ◌∙◌, rules, tests}
+use Rattle.std.proofs.lemmas.Iterator.{YieldsList-from_slice}
+use Rattle.std.proofs.lemmas.Iterator.Adapters.{option_map_id}
+use Rattle.std.proofs.lemmas.Iterator.Consumers.{YieldsList-at, YieldsList-from_filter, YieldsList-from_filter_map, min_from_yields_List}
+use Rattle.records.specs.Meaning.{says}
+use Rattle.listing.specs.Fold.{plot_in}
+use Rattle.listing.proofs.Counts.{next_plot_is}
 use Rattle.listing.proofs.count.next_plot.Goals as goal
 
-pub returns-in_default : goal.returns-in_default
-returns-in_default c = plot_none c.args.records.now c.args.section c.args.after c.requires c.in_default.ensures
-
-pub returns-then-key-start : goal.returns-then-key-start
-returns-then-key-start c = plot_far c.args.records.now c.args.section c.args.after c.requires c.in-Some.key c.in-Some.ensures (omega arith)
-
-pub overflow_sub-result : goal.overflow_sub-result
-overflow_sub-result c = omega (arith, key_after c.args.records.now c.args.section c.args.after c.requires c.in-Some.key c.in-Some.ensures)
-
 pub returns : goal.returns
-returns c = plot_next c.args.records.now c.args.section c.args.after c.requires c.in-Some.key c.in-Some.ensures (omega arith)
+returns c =
+    let rs = c.args.records.now in
+    let a = c.args.after in
+    next_plot_is rs a.section a.number c.min.result
+    (sym (option_map_id _) ∙ min_from_yields_List _ _ c.min.ensures.ran
+    (YieldsList-from_filter _ (ltb a.number)
+    (YieldsList-at c.filter.ensures.source (YieldsList-from_filter_map _ (λ r. plot_in a.section (says r)) (YieldsList-at c.filter_map.ensures.source (YieldsList-from_slice rs cc)) c.filter_map.ensures.closure (λ x r q k. search rules)))
+    c.filter.ensures.closure (λ x b q k. search (rules, tests))))

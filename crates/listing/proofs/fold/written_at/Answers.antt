@@ -1,20 +1,18 @@
-use Rattle.std.proofs.Common.{ap, ◌∙◌, arith}
+use Rattle.std.proofs.Common.{rules, subst, sym, ap, ◌∙◌}
+use Rattle.std.proofs.lemmas.Iterator.{YieldsList-from_slice}
+use Rattle.std.proofs.lemmas.Iterator.Consumers.{YieldsList-at, YieldsList-from_filter_map}
 use Rattle.std.specs.Option.{option_map}
-use Rattle.records.specs.Content.{greater, one}
 use Rattle.records.specs.Meaning.{version_of}
-use Rattle.listing.proofs.Folds.{fold_more, fold_all, greater_together}
-use Rattle.listing.proofs.Ats.{at_greater}
+use Rattle.listing.specs.Fold.{At}
+use Rattle.listing.proofs.Folds.{cell_in, cell_told, pick, pick_is, greatest_is, reduce_told}
 use Rattle.listing.proofs.fold.written_at.Goals as goal
 
-pub loop-record-preserved : goal.loop-record-preserved
-loop-record-preserved c = (
-  c.greater_cell-cell.ensures.version ∙ ap (greater (option_map version_of c.loop-record.cell)) c.cell_by.ensures.version
-      ∙ fold_more greater _ greater_together (λ m. (one m).cell c.args.section c.args.plot c.args.field) c.args.records.now c.loop-record.record-index c.record-item.result (option_map version_of c.loop-record.cell) (omega arith) c.record-item.is c.loop-record.invariant.0,
-  at_greater c.args.section c.args.plot c.args.field c.loop-record.cell c.cell_by.result c.greater_cell-cell.result c.greater_cell-cell.ensures.cell c.loop-record.invariant.1 c.cell_by.ensures.place,
-)
-
 pub returns : goal.returns
-returns c = record {
-  version = fold_all greater _ greater_together (λ m. (one m).cell c.args.section c.args.plot c.args.field) c.args.records.now c.loop-record.record-index (option_map version_of c.loop-record.cell) (omega arith) c.loop-record.invariant.0;
-  place = c.loop-record.invariant.1;
-}
+returns c =
+    let p = c.args.place in
+    let rs = c.args.records.now in
+    let e = reduce_told _ pick c.reduce.result c.reduce.ensures.ran
+    (YieldsList-from_filter_map _ (cell_in p) (YieldsList-at c.filter_map.ensures.source (YieldsList-from_slice rs cc)) c.filter_map.ensures.closure (λ x r q k. search (rules, cell_told)))
+    (λ a x b q k. search (rules, pick_is)) in
+    let h = greatest_is p rs in
+    record { version = ap (option_map version_of) e ∙ h.0; place = subst (At p) (sym e) h.1 }
