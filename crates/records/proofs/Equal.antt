@@ -24,8 +24,8 @@ use Rattle.records.proofs.Ext.{value_ext, cell_ext, deletion_ext}
 
 pub value_told : (a b : Value) → Decides ((value_eq.ghosts).eq a b) (a ≡ b)
 value_told a b =
-    Decides-like ((value_eq.ghosts).eq a b) (λ h. value_ext a b h.0 h.1) (λ e. (ap (λ v. v.bytes) e, ap (λ v. v.len) e))
-    (Decides-and _ _ (bytes_decides a.bytes b.bytes) (Decides-eqb a.len b.len))
+    Decides-like ((value_eq.ghosts).eq a b) (λ h. value_ext a b h.1 h.0) (λ e. (ap (λ v. v.len) e, ap (λ v. v.bytes) e))
+    (Decides-and _ _ (Decides-eqb a.len b.len) (bytes_decides a.bytes b.bytes))
 
 pub state_told : (a b : State) → Decides ((state_eq.ghosts).eq a b) (a ≡ b)
 state_told (Live v) (Live w) = Decides-like ((value_eq.ghosts).eq v w) (ap Live) (λ e. cc) (value_told v w)

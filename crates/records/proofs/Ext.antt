@@ -1,5 +1,8 @@
 -- Places, values, cells and deletions are known by their fields.
-use Rattle.std.proofs.Common.{◌≡◌, ◌≤◌, true, length, drop}
+use Rattle.std.proofs.Common.{◌≡◌, ◌≤◌, Bool, true, length, drop, Decides, nat_eq, ap}
+use Rattle.std.proofs.lemmas.Bool.Decides.{Decides-eqb}
+use Rattle.std.proofs.lemmas.Slice.Eq.{slice_eq-Decides}
+use Rattle.std.specs.Cmp.Lexicographic.{pointwise}
 use mathlib.Core.Bool.{Bool-set}
 use mathlib.Core.HLevel.{is_prop→PathP}
 use native.Mathlib.Bridge.{le_prop}
@@ -56,3 +59,10 @@ cell_ext a b p t v = λ i. record {
   day_low = is_prop→PathP (λ j. rank_of (v j) ≤ day_of (v j)) (λ j. le_prop) a.day_low b.day_low i;
   day_high = is_prop→PathP (λ j. day_of (v j) ≤ 99999) (λ j. le_prop) a.day_high b.day_high i;
 }
+
+-- the lengths are equal, and the bytes are compared
+pub value_same : (a b : Value) (r : Bool) → a.len ≡ b.len → Decides r (a.bytes ≡ b.bytes) → Decides r (a ≡ b)
+value_same a b r l h = (λ e. value_ext a b (h.0 e) l, λ e. h.1 (ap (λ v. v.bytes) e))
+
+pub value_told : (a b : Value) (r : Bool) → a.len ≡ b.len → r ≡ pointwise nat_eq a.bytes b.bytes → Decides r (a ≡ b)
+value_told a b r l e = value_same a b r l (slice_eq-Decides Decides-eqb a.bytes b.bytes r e)

@@ -5,3 +5,4 @@ pub mod Content
 pub mod Ranges
 pub mod Meaning
 pub mod Listed
+pub mod Values
