@@ -1,23 +1,23 @@
 -- What two cells of one place are compared by: stamp and state, in the order of their versions' keys.
-use Rattle.std.proofs.Common.{◌≡◌, ◌==◌, ℕ, Bool, cond, Some, nat_lt, nat_cmp, is_le, Ordering, ap, ◌∙◌, arith}
+use Rattle.std.proofs.Common.{◌≡◌, ◌==◌, true, false, cond, nat_lt, is_le, sym, ap, ◌∙◌, arith}
 use Rattle.std.proofs.lemmas.Bool.Decides.{nat_tests}
-use Rattle.std.specs.Cmp.{Some-then}
-use Rattle.std.specs.Ordering.{ordering_then, partial_ordering_then, is_some_and}
 use Rattle.records.specs.declared.cell.Cell.{Cell}
-use Rattle.records.specs.contracts.state.StatePartialOrd.TheImpl as state_po
 use Rattle.records.specs.contracts.state.StateOrd.TheImpl as state_ord
-use Rattle.records.specs.contracts.state.StateOrd.TheImpl.Laws as state_laws
 use Rattle.records.specs.Order.{upto}
 use Rattle.records.specs.Content.{version_key}
 use Rattle.records.specs.Meaning.{version_of}
 use Rattle.records.proofs.Order.{state_order}
 
-stamp_first : (x y : ℕ) (o : Ordering) (r : Bool) → is_le o ≡ r → is_le (ordering_then (nat_cmp x y) o) ≡ cond (x == y) r (nat_lt x y)
-stamp_first x y o r h = grind (arith, nat_tests)
-
-pub compared : (a b : Cell) → is_some_and is_le (partial_ordering_then (Some (nat_cmp a.stamp b.stamp)) ((state_po.ghosts).partial_cmp a.state b.state)) ≡ upto (version_key (version_of a)) (version_key (version_of b))
+compared : (a b : Cell) → cond (a.stamp == b.stamp) (is_le ((state_ord.ghosts).cmp a.state b.state)) (nat_lt a.stamp b.stamp) ≡ upto (version_key (version_of a)) (version_key (version_of b))
 unfolding version_key
-compared a b =
-    ap (λ o. is_some_and is_le (partial_ordering_then (Some (nat_cmp a.stamp b.stamp)) o)) (state_laws.matches_partial_cmp-law a.state b.state)
-    ∙ ap (is_some_and is_le) (Some-then (nat_cmp a.stamp b.stamp) ((state_ord.ghosts).cmp a.state b.state))
-    ∙ stamp_first a.stamp b.stamp ((state_ord.ghosts).cmp a.state b.state) _ (state_order a.state b.state)
+compared a b = ap (λ r. cond (a.stamp == b.stamp) r (nat_lt a.stamp b.stamp)) (state_order a.state b.state)
+
+pub same_stamp : (a b : Cell) → a.stamp ≡ b.stamp → is_le ((state_ord.ghosts).cmp a.state b.state) ≡ upto (version_key (version_of a)) (version_key (version_of b))
+same_stamp a b e =
+    let t : (a.stamp == b.stamp) ≡ true = grind (arith, nat_tests) in
+    ap (λ t. cond t (is_le ((state_ord.ghosts).cmp a.state b.state)) (nat_lt a.stamp b.stamp)) (sym t) ∙ compared a b
+
+pub other_stamp : (a b : Cell) → (a.stamp ≡ b.stamp → ⊥) → nat_lt a.stamp b.stamp ≡ upto (version_key (version_of a)) (version_key (version_of b))
+other_stamp a b n =
+    let t : (a.stamp == b.stamp) ≡ false = grind (arith, nat_tests) in
+    ap (λ t. cond t (is_le ((state_ord.ghosts).cmp a.state b.state)) (nat_lt a.stamp b.stamp)) (sym t) ∙ compared a b
