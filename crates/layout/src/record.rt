@@ -11,6 +11,8 @@ use records::{Cell, Deletion, Place, Plot, Record, State, Tombstone, Value};
 impl From<LawfulRow> for Record {
     ghost from_gives = { λ l r. IsRowOf (says r) l.row };
 
+    // Inlined, so that a row need not stand in memory first.
+    #[inline(always)]
     fn from(lawful: LawfulRow) -> Record {
         let row = lawful.row;
         let plot = Plot {

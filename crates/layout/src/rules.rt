@@ -1,6 +1,6 @@
 //! The layout's table, row by row, and rows that break none of it.
 
-ghost use Rattle.std.specs.Prelude.{◌≡◌, None, if◌then◌else◌, Some, IfOk, drop};
+ghost use Rattle.std.specs.Prelude.{◌≡◌, ◌≤◌, None, if◌then◌else◌, Some, IfOk, drop};
 ghost use Rattle.std.specs.Result.{result_err};
 ghost use Rattle.records.specs.Zeros.{all_zero};
 ghost use Rattle.records.specs.Ranges.{section_fits, plot_fits, stamp_fits};
@@ -49,9 +49,11 @@ fn stamp_fits(stamp: u64) -> bool
 
 // Whether the bytes behind a value are 0.
 fn padded(row: &Row) -> bool
+    requires { row.now.len ≤ 23 }
     ensures { result ≡ all_zero (drop row.now.len row.now.value) }
 {
-    row.value.iter().skip(usize::from(row.len)).all(|b| *b == 0)
+    // As `iter().skip(..)` it would go over the value's own bytes too.
+    row.value[usize::from(row.len)..].iter().all(|b| *b == 0)
 }
 
 impl TryFrom<Row> for LawfulRow {

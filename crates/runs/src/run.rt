@@ -85,7 +85,8 @@ impl<'a> Run<'a> {
         pieces
     }
 
-    // Its record with this index, which it has.
+    // Its record with this index, which it has. Inlined, since most who ask go by a part of it.
+    #[inline(always)]
     #[tactic(auto, unfolding(layout::specs::Pieces::mutation_at))]
     pub(crate) fn at(&self, index: usize) -> Record
         requires { index < size self.now }
