@@ -28,11 +28,22 @@ number_of reason.Length = 1
 number_of reason.Malformed = 2
 number_of reason.Order = 3
 number_of reason.Empty = 4
+number_of reason.Choice = 5
+number_of reason.Outside = 6
+number_of reason.TooOld = 7
+number_of reason.Full = 8
+number_of reason.Runs = 9
+number_of reason.Area = 10
+number_of reason.Scratch = 11
+number_of reason.Few = 12
+number_of reason.Answers = 13
 
 -- the numbers of the layers
 abbrev pub number_of_layer : Layer → ℕ
 number_of_layer layer.Record = 1
 number_of_layer layer.Run = 2
+number_of_layer layer.Source = 3
+number_of_layer layer.Trio = 4
 
 -- 1 length, 2 malformed, both of layer 1
 abbrev pub refusal_of : RecordFault → Refusal

@@ -13,13 +13,22 @@ pub enum RecordFault {
     Malformed(Part),
 }
 
-/// What a refusal is for, by its number in the table of refusals.
+/// What a refusal is for, by its number in the table of refusals, whole: every layer tells its refusals in these.
 #[derive(Clone, Copy, PartialEq, Eq, Debug)]
 pub enum Reason {
     Length = 1,
     Malformed = 2,
     Order = 3,
     Empty = 4,
+    Choice = 5,
+    Outside = 6,
+    TooOld = 7,
+    Full = 8,
+    Runs = 9,
+    Area = 10,
+    Scratch = 11,
+    Few = 12,
+    Answers = 13,
 }
 
 /// The layer that refuses, by its number in the table of refusals.
@@ -27,6 +36,8 @@ pub enum Reason {
 pub enum Layer {
     Record = 1,
     Run = 2,
+    Source = 3,
+    Trio = 4,
 }
 
 /// A refusal as every layer tells it: its number in the table of refusals, the layer that found it, and the index of the
