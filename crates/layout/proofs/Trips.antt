@@ -61,7 +61,7 @@ module _ (r : Row) (l : length r.value ≡ 23) (e : first_broken (rules r) ≡ N
       ap (λ m. take r.len r.value ++ replicate (23 - m) 0) long ∙ ap (λ x. take r.len r.value ++ x) (sym zeros) ∙ take-append-drop r.len r.value
 
   -- a row that breaks no rule is the row of what it says
-  rule_back : row_of (mutation_in r) ≡ r
+  pub rule_back : row_of (mutation_in r) ≡ r
   rule_back = go (eqb r.kind 1) refl
     where
       go : (b : Bool) → eqb r.kind 1 ≡ b → row_of (mutation_in r) ≡ r

@@ -17,7 +17,8 @@ written_last {b} {c} {d} part at n w h e l =
 pub byte_is : (n : ℕ) → n < 256 → n ∷ [] ≡ digits 1 n
 byte_is n h = ap (λ d. d ∷ []) (omega arith)
 
-lowest : (n : ℕ) → n % 256 ≡ n / 1 % 256
+-- the lowest digit
+pub lowest : (n : ℕ) → n % 256 ≡ n / 1 % 256
 lowest n = omega arith
 
 -- what the code writes of a number

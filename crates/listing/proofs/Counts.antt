@@ -14,7 +14,7 @@ use Rattle.std.proofs.lemmas.List.Folds.{list_any-append}
 use Rattle.records.specs.declared.place.Place.{Place}
 use Rattle.records.specs.declared.record.Record.{Record}
 use Rattle.records.specs.declared.record.Record.TheVariants as which
-use Rattle.records.specs.Content.{Mutation, deletion, entry, content_of, uncovered, is_live}
+use Rattle.records.specs.Content.{Content, Mutation, deletion, entry, content_of, uncovered, is_live}
 use Rattle.records.specs.Meaning.{says}
 use Rattle.records.specs.Listed.{passing, listed, free}
 use Rattle.records.proofs.Passing.{passing_none, passing_next, passing_skip, passing-empty, passing_few}
@@ -164,13 +164,16 @@ plot_bare s p f (entry s' p' f' c ∷ ms) h = go (eqb s' s) refl h (plot_bare s 
         let n : (eqb s s' && (eqb p p' && eqb f f')) ≡ false = grind (arith, nat_tests) in
         rw n (i h)
 
--- a plot with no cell written is not listed, nor free
-bare_listed : (ms : List Mutation) (s p : ℕ) → in_plot ms s p ≡ false → listed (content_of ms) s p ≡ false
-bare_listed ms s p h =
-    ap (λ xs. ltb 0 (length xs)) (passing-empty (λ f. is_live ((content_of ms).cell s p f)) 32 (λ f a b. ap is_live (cell_is ms (place_at s p f) ∙ ap (uncovered ((content_of ms).cover s p)) (plot_bare s p f ms h))))
+-- a plot without cells is not listed, nor free
+pub bare_listed : (c : Content) (s p : ℕ) → ((f : ℕ) → c.cell s p f ≡ None) → listed c s p ≡ false
+bare_listed c s p h = ap (λ xs. ltb 0 (length xs)) (passing-empty (λ f. is_live (c.cell s p f)) 32 (λ f a b. ap is_live (h f)))
 
-bare_free : (ms : List Mutation) (s p : ℕ) → in_plot ms s p ≡ false → free (content_of ms) s p ≡ false
-bare_free ms s p h = ap (λ b. b && not (is_live ((content_of ms).cell s p 1))) (bare_listed ms s p h)
+pub bare_free : (c : Content) (s p : ℕ) → ((f : ℕ) → c.cell s p f ≡ None) → free c s p ≡ false
+bare_free c s p h = ap (λ b. b && not (is_live (c.cell s p 1))) (bare_listed c s p h)
+
+-- a plot with no cell written has none
+unwritten : (ms : List Mutation) (s p : ℕ) → in_plot ms s p ≡ false → (f : ℕ) → (content_of ms).cell s p f ≡ None
+unwritten ms s p h f = cell_is ms (place_at s p f) ∙ ap (uncovered ((content_of ms).cover s p)) (plot_bare s p f ms h)
 
 -- of the numbers that pass one test those that pass another, which only such numbers pass
 counted : (most test : ℕ → Bool) → ((k : ℕ) → most k ≡ false → test k ≡ false) → (n : ℕ) → count_by test (passing most n) ≡ length (passing test n)
@@ -190,8 +193,8 @@ pub plots_counted : (ms : List Mutation) (s m n f : ℕ) → passing (in_plot ms
     n ≡ count_by (listed (content_of ms) s) (passing (in_plot ms s) m) → f ≡ count_by (free (content_of ms) s) (passing (in_plot ms s) m) →
     record { listed = n; free = f } ≡ plots_of (content_of ms) s
 plots_counted ms s m n f e l g = λ i. record {
-  listed = (l ∙ ap (count_by (listed (content_of ms) s)) (sym e) ∙ counted (in_plot ms s) (listed (content_of ms) s) (bare_listed ms s) 999999) i;
-  free = (g ∙ ap (count_by (free (content_of ms) s)) (sym e) ∙ counted (in_plot ms s) (free (content_of ms) s) (bare_free ms s) 999999) i;
+  listed = (l ∙ ap (count_by (listed (content_of ms) s)) (sym e) ∙ counted (in_plot ms s) (listed (content_of ms) s) (λ p h. bare_listed (content_of ms) s p (unwritten ms s p h)) 999999) i;
+  free = (g ∙ ap (count_by (free (content_of ms) s)) (sym e) ∙ counted (in_plot ms s) (free (content_of ms) s) (λ p h. bare_free (content_of ms) s p (unwritten ms s p h)) 999999) i;
 }
 
 pub count_low : (most test : ℕ → Bool) (n : ℕ) → count_by test (passing most n) ≤ n
