@@ -13,7 +13,7 @@ pub enum RecordFault {
     Malformed(Part),
 }
 
-/// What a refusal is for, by its number in the table of refusals, whole: every layer tells its refusals in these.
+/// What a refusal is for: the table of refusals, whole, each by its number.
 #[derive(Clone, Copy, PartialEq, Eq, Debug)]
 pub enum Reason {
     Length = 1,
